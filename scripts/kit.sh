@@ -1,0 +1,36 @@
+# Where the Rattle kit is, and how an x86-64 program of it is run on this machine. Sourced, from any folder.
+# Sets KIT and TOOLCHAIN; `run_x86 PROGRAM WORDS..` runs a program that rt or scripts/kit.sh's own `link_x86` made.
+
+need() { # need TOOL..: one clear line where a tool is missing
+    local tool
+    for tool in "$@"; do
+        command -v "$tool" >/dev/null 2>&1 || {
+            echo "$(basename "$0"): '$tool' is not on this machine's PATH" >&2
+            exit 1
+        }
+    done
+}
+
+need rt
+KIT=$(dirname "$(dirname "$(rt doc)")")
+TOOLCHAIN=$KIT/on/$(uname -m)/toolchain
+
+run_x86() {
+    local emulator=()
+    [ "$(uname -m)" = x86_64 ] || emulator=("$TOOLCHAIN/bin/qemu-x86_64" -cpu max)
+    ${emulator[@]+"${emulator[@]}"} "$TOOLCHAIN/lib/ld-linux-x86-64.so.2" --library-path "$TOOLCHAIN/lib" "$@"
+}
+
+# compile_x86 OUT.o SOURCE.c WORDS..: C for the machine that Rattle compiles for
+compile_x86() {
+    local out=$1 source=$2
+    shift 2
+    "$TOOLCHAIN/bin/clang" --target=x86_64-unknown-linux-gnu -c "$source" -o "$out" "$@"
+}
+
+# link_x86 OUT OBJECTS..: a program of them and the C library
+link_x86() {
+    local out=$1 lib=$TOOLCHAIN/lib
+    shift
+    "$TOOLCHAIN/bin/ld.lld" -pie -dynamic-linker "$lib/ld-linux-x86-64.so.2" -o "$out" "$lib/Scrt1.o" "$lib/crti.o" "$lib/crtbeginS.o" "$@" "$lib/libc.so.6" "$lib/libc_nonshared.a" "$lib/libgcc.a" "$lib/crtendS.o" "$lib/crtn.o"
+}
