@@ -1,0 +1,34 @@
+-- Tests that are joined by `and`, and tests that say the same. Assumes nothing.
+use mathlib.Core.Path.{_≡_, refl, sym, _∙_}
+use mathlib.Core.Bool.{Bool, true, false, _&&_, true≢false}
+
+-- two tests, each of which holds where the other does
+pub agree : (p q : Bool) → (p ≡ true → q ≡ true) → (q ≡ true → p ≡ true) → p ≡ q
+agree true true f g = refl
+agree true false f g = sym (f refl)
+agree false true f g = g refl
+agree false false f g = refl
+
+-- `and`, taken apart
+pub first : (p q : Bool) → (p && q) ≡ true → p ≡ true
+first true q h = refl
+first false q h = h
+
+pub second : (p q : Bool) → (p && q) ≡ true → q ≡ true
+second true q h = h
+second false true h = refl
+second false false h = h
+
+-- and put together
+pub both : (p q : Bool) → p ≡ true → q ≡ true → (p && q) ≡ true
+both true q h k = k
+both false q h k = h
+
+-- what never holds is false
+pub never : (p : Bool) → (p ≡ true → ⊥) → p ≡ false
+never true f = absurd (f refl)
+never false f = refl
+
+-- a test that is false does not hold
+pub not-both : (p : Bool) → p ≡ false → p ≡ true → ⊥
+not-both p f t = true≢false (sym t ∙ f)
