@@ -1,0 +1,4 @@
+pub mod Turning
+pub mod Rotation
+pub mod BigEndian
+pub mod Kept
