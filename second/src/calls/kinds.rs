@@ -1,0 +1,136 @@
+//! The kinds of calls, and which call comes at an index.
+
+use crate::calls::call::Call;
+use crate::calls::{paddings, sessions, states};
+use crate::making::random::Random;
+use crate::making::turns::{turn, Weighted};
+
+/// What a maker is told.
+pub struct Wish {
+    /// The kind's name.
+    pub name: &'static str,
+    pub random: Random,
+    /// How many of its kind were made before.
+    pub ordinal: u64,
+    pub seed: u64,
+    /// Records' numbers stay below 2^32.
+    pub narrow: bool,
+}
+
+impl Wish {
+    pub fn in_place(&self) -> bool {
+        self.name.contains("_in_place")
+    }
+
+    pub fn part(&self) -> bool {
+        self.name.contains("_part")
+    }
+}
+
+/// A kind: the call's name, with `@` where it lends what is not there.
+/// Kinds of one group and ordinal get the same arguments, so that a number and
+/// its part, or the two ways to update, are asked about the same.
+#[derive(Clone, Copy)]
+pub struct Kind {
+    pub name: &'static str,
+    group: &'static str,
+    weight: u64,
+    make: fn(&mut Wish) -> Call,
+}
+
+impl Weighted for Kind {
+    fn weight(&self) -> u64 {
+        self.weight
+    }
+}
+
+const KINDS: [Kind; 27] = [
+    kind("fresh", "fresh", 1, states::fresh),
+    kind("update", "update", 12, states::update),
+    kind("update_in_place", "update", 12, states::update),
+    kind("finish", "finish", 8, states::finish),
+    kind("digest", "digest", 6, states::digest),
+    kind("compare_message", "compare", 8, states::compare_message),
+    kind("compare_state", "compare", 8, states::compare_state),
+    kind("pad_write", "pad", 10, paddings::pad_write),
+    kind("block_number", "block", 12, paddings::block),
+    kind("block_part", "block", 12, paddings::block),
+    kind("remove_number", "remove", 10, paddings::remove),
+    kind("remove_part", "remove", 10, paddings::remove),
+    kind("sheet_read", "sheet", 14, sessions::sheet_read),
+    kind("sheet_read_in_place", "sheet", 14, sessions::sheet_read),
+    kind("deliver", "deliver", 18, sessions::deliver),
+    kind("deliver_in_place", "deliver", 18, sessions::deliver),
+    kind("ask", "ask", 13, sessions::ask),
+    kind("ask_in_place", "ask", 13, sessions::ask),
+    kind("update@", "update@", 1, states::update_absent),
+    kind("update_in_place@", "update@", 1, states::update_absent),
+    kind("digest@", "digest@", 1, states::digest_absent),
+    kind(
+        "compare_message@",
+        "compare@",
+        1,
+        states::compare_message_absent,
+    ),
+    kind("pad_write@", "pad@", 1, paddings::pad_write_absent),
+    kind("block_number@", "block@", 1, paddings::block_absent),
+    kind("block_part@", "block@", 1, paddings::block_absent),
+    kind("deliver@", "deliver@", 1, sessions::deliver_absent),
+    kind("deliver_in_place@", "deliver@", 1, sessions::deliver_absent),
+];
+
+const fn kind(
+    name: &'static str,
+    group: &'static str,
+    weight: u64,
+    make: fn(&mut Wish) -> Call,
+) -> Kind {
+    Kind {
+        name,
+        group,
+        weight,
+        make,
+    }
+}
+
+/// The calls of a run: the same for the same seed and kinds.
+pub struct Calls {
+    pub kinds: Vec<Kind>,
+    pub seed: u64,
+    pub narrow: bool,
+}
+
+impl Calls {
+    /// All kinds but those named; a call's name takes its `@` kind with it.
+    pub fn new(seed: u64, without: &[String], narrow: bool) -> Result<Calls, String> {
+        for name in without {
+            if KINDS.iter().all(|kind| kind.name != name) {
+                return Err(format!("no call {name}"));
+            }
+        }
+        let named = |name: &str| without.iter().any(|other| other == name);
+        let mut kinds = KINDS.to_vec();
+        kinds.retain(|kind| !named(kind.name) && !named(kind.name.trim_end_matches('@')));
+        if kinds.is_empty() {
+            return Err("no call is left".to_string());
+        }
+        Ok(Calls {
+            kinds,
+            seed,
+            narrow,
+        })
+    }
+
+    /// The call at this index, and its kind's name.
+    pub fn at(&self, index: u64) -> (&'static str, Call) {
+        let (kind, ordinal) = turn(&self.kinds, index);
+        let mut wish = Wish {
+            name: kind.name,
+            random: Random::new(self.seed, kind.group, ordinal),
+            ordinal,
+            seed: self.seed,
+            narrow: self.narrow,
+        };
+        (kind.name, (kind.make)(&mut wish))
+    }
+}

@@ -1,0 +1,272 @@
+//! Slots and sessions of every kind, and the calls over them.
+
+use crate::calls::call::Call;
+use crate::calls::kinds::Wish;
+use crate::calls::states::{self, LONGEST_SLICE};
+use crate::calls::values::Lent;
+use crate::hash::State;
+use crate::making::random::Random;
+use crate::making::{faults, notes, sheets};
+use crate::padding::LONGEST;
+use crate::session::{Record, Session, Slot, NOTES, OPEN, SHUT, WAITING};
+
+pub fn sheet_read(wish: &mut Wish) -> Call {
+    let before = wish.in_place().then(|| Box::new(scene(wish).session));
+    let (_, text) = sheets::at(wish.seed, wish.ordinal);
+    Call::SheetRead { before, text }
+}
+
+pub fn deliver(wish: &mut Wish) -> Call {
+    let scene = scene(wish);
+    let note = note(wish, scene.note);
+    Call::Deliver {
+        in_place: wish.in_place(),
+        session: Box::new(scene.session),
+        note,
+        piece: Lent::Bytes(piece(&mut wish.random, scene.rest)),
+    }
+}
+
+/// A piece that no slot can take: it is longer than what the slot still lacks,
+/// also where a cut to 32 bits would make it fit.
+pub fn deliver_absent(wish: &mut Wish) -> Call {
+    let scene = scene(wish);
+    let note = note(wish, scene.note);
+    let lacking = match scene.session.slots[scene.note as usize - 1] {
+        slot if slot.state.total < slot.record.length => slot.record.length - slot.state.total,
+        _ => 0,
+    };
+    let fits = scene.rest.len() as u64;
+    let past = lacking.saturating_add(1).min(LONGEST_SLICE);
+    let lengths = [past, (1 << 32) + fits, LONGEST + 1, LONGEST_SLICE];
+    let length = if note == scene.note {
+        wish.random.pick(&lengths).max(past)
+    } else {
+        LONGEST_SLICE
+    };
+    Call::Deliver {
+        in_place: wish.in_place(),
+        session: Box::new(scene.session),
+        note,
+        piece: Lent::Absent(length),
+    }
+}
+
+pub fn ask(wish: &mut Wish) -> Call {
+    let scene = scene(wish);
+    Call::Ask {
+        in_place: wish.in_place(),
+        note: note(wish, scene.note),
+        session: Box::new(scene.session),
+    }
+}
+
+/// A session, the note that it is about, and bytes that would end its sample.
+struct Scene {
+    session: Session,
+    note: u64,
+    rest: Vec<u8>,
+}
+
+fn scene(wish: &mut Wish) -> Scene {
+    let random = &mut wish.random;
+    let note = random.within(1, NOTES);
+    let mut session = Session::unlisted();
+    let crowd = if random.one_in(4) { NOTES } else { 5 };
+    let others = random.pick(&[0, 1, 2, 3, 4, crowd]);
+    for _ in 0..others {
+        let place = random.index(NOTES as usize);
+        let turn = random.word();
+        session.slots[place] = slot(random, turn, wish.narrow).0;
+    }
+    let (slot, rest) = slot(random, wish.ordinal, wish.narrow);
+    session.slots[note as usize - 1] = slot;
+    Scene {
+        session,
+        note,
+        rest,
+    }
+}
+
+/// Mostly the note itself; else one that is out of bounds or not listed, or
+/// whose low bits are the note's. Where each status has its only turn, it is
+/// the note itself.
+fn note(wish: &mut Wish, note: u64) -> u64 {
+    if wish.ordinal % SLOT_TURNS == STATUS_TURN {
+        return note;
+    }
+    let random = &mut wish.random;
+    let outside = [0, 33, 34, 255, 256, 257, 261, 4294967301, u64::MAX];
+    let wrapped = [
+        1 << 8,
+        1 << 16,
+        1 << 31,
+        1 << 32,
+        1 << 63,
+        u64::MAX - 255,
+        32,
+        64,
+    ];
+    match random.below(12) {
+        0 => random.pick(&outside),
+        1 => note + random.pick(&wrapped),
+        2 => random.within(1, NOTES),
+        _ => note,
+    }
+}
+
+/// The rest, a part of it, more than it, or other bytes.
+fn piece(random: &mut Random, mut rest: Vec<u8>) -> Vec<u8> {
+    match random.below(12) {
+        0 => rest.clear(),
+        1 => rest.push(random.word() as u8),
+        2 => rest.extend_from_slice(&random.bytes(64)),
+        3 => rest.truncate(rest.len().saturating_sub(1)),
+        4 | 5 => {
+            let length = random.index(rest.len() + 1);
+            rest.truncate(length);
+        }
+        6 => {
+            let length = random.below(201) as usize;
+            rest = random.bytes(length);
+        }
+        _ => (),
+    }
+    rest
+}
+
+/// How many turns there are for slots, and the one that goes through all
+/// statuses.
+const SLOT_TURNS: u64 = 12;
+const STATUS_TURN: u64 = 6;
+
+/// A slot by turns: in order, or spoilt in one of its parts.
+fn slot(random: &mut Random, turn: u64, narrow: bool) -> (Slot, Vec<u8>) {
+    let (mut slot, rest) = waiting(random);
+    let decided = random.pick(&[OPEN, SHUT]);
+    match turn % SLOT_TURNS {
+        0..=4 => (),
+        5 => slot = decided_slot(slot.record, decided),
+        STATUS_TURN => {
+            slot.status = (turn / SLOT_TURNS % 256) as u8;
+            if random.one_in(2) {
+                slot.state = State::fresh();
+            }
+        }
+        7 => {
+            slot.record = bad_record(random, &slot.record, narrow);
+            if random.one_in(3) {
+                slot = decided_slot(slot.record, decided);
+            }
+        }
+        8 => spoil_total(random, &mut slot),
+        9 => slot.state = states::dirty(random, slot.state.total),
+        10 => {
+            slot = decided_slot(slot.record, decided);
+            spoil_fresh(random, &mut slot);
+        }
+        // Not listed, whatever else it holds.
+        _ => slot.status = 0,
+    }
+    (slot, rest)
+}
+
+fn decided_slot(record: Record, status: u8) -> Slot {
+    Slot {
+        record,
+        state: State::fresh(),
+        status,
+    }
+}
+
+/// A waiting slot in order and the bytes it lacks. Two digests of three are
+/// those of the sample that these bytes end; the others are wrong by a bit.
+fn waiting(random: &mut Random) -> (Slot, Vec<u8>) {
+    let length = notes::length(random);
+    let most = if random.one_in(20) { 5000 } else { 200 };
+    let lacking = random.within(1, length.min(most));
+    let lacking = if random.one_in(4) { length } else { lacking };
+    let state = begun(random, length - lacking);
+    let rest = random.bytes(if lacking > 5000 {
+        100
+    } else {
+        lacking as usize
+    });
+    let mut ended = state;
+    assert_eq!(ended.update(&rest), 0);
+    let mut digest = ended.finish().digest;
+    if random.one_in(3) {
+        digest[random.index(32)] ^= random.bit();
+    }
+    let slot = Slot {
+        record: notes::record(random, length, digest),
+        state,
+        status: WAITING,
+    };
+    (slot, rest)
+}
+
+/// A state that took so many bytes: one that a message leads to if there are
+/// few, else any in order.
+fn begun(random: &mut Random, total: u64) -> State {
+    if total > 300 || random.one_in(3) {
+        return states::in_order(random, total);
+    }
+    let mut state = State::fresh();
+    assert_eq!(state.update(&random.bytes(total as usize)), 0);
+    state
+}
+
+/// A record that rule 3 or rule 4 refuses.
+fn bad_record(random: &mut Random, good: &Record, narrow: bool) -> Record {
+    let mut bad = *good;
+    let wide = [
+        1 << 32,
+        (1 << 32) + good.length,
+        1 << 63,
+        u64::MAX - 1,
+        u64::MAX,
+    ];
+    match random.below(5) {
+        0 => bad.length = faults::bad_length(random, good.length),
+        1 if !narrow => bad.length = random.pick(&wide),
+        2 if !narrow => bad.loop_end = (1 << 32) + good.loop_end,
+        3 if !narrow => bad.loop_start = random.pick(&wide),
+        _ => (bad.loop_start, bad.loop_end) = faults::bad_loop(random, good),
+    }
+    bad
+}
+
+/// A total that is not below the length, or not in order at all.
+fn spoil_total(random: &mut Random, slot: &mut Slot) {
+    let length = slot.record.length;
+    let past = [
+        length,
+        length,
+        length + 1,
+        length + 64,
+        LONGEST,
+        LONGEST + 1,
+        1 << 63,
+        u64::MAX,
+    ];
+    let total = random.pick(&past);
+    slot.state = states::in_order(random, total);
+}
+
+/// Any state but the fresh one.
+fn spoil_fresh(random: &mut Random, slot: &mut Slot) {
+    let state = &mut slot.state;
+    match random.below(5) {
+        0 => state.words[random.index(8)] ^= 1 << random.below(32),
+        1 => state.total = random.pick(&[1, 64, slot.record.length, LONGEST, u64::MAX]),
+        2 => state.tail[random.index(64)] = random.bit(),
+        3 => {
+            *state = State {
+                words: [0; 8],
+                ..*state
+            }
+        }
+        _ => *state = states::in_order(random, slot.record.length),
+    }
+}

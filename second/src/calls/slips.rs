@@ -1,0 +1,299 @@
+//! Wrong answers, each made by one mistake, to show that the comparison of
+//! calls finds it. Nothing else uses them.
+
+use crate::calls::answer::{
+    answer, comparison_text, delivered_text, digest_text, part_text, sheet_text, updated_text,
+    written_text,
+};
+use crate::calls::call::Call;
+use crate::calls::values::Lent;
+use crate::folders::slips::{loop_below, part_taken};
+use crate::hash::{Compared, Digested, State};
+use crate::padding::{self, LONGEST};
+use crate::session::{Session, OPEN, SHUT, WAITING};
+use crate::sheet;
+use crate::sm3;
+
+/// A mistake: the wrong answer to a call, or nothing where it does not matter
+/// for that call.
+pub struct Slip {
+    pub name: &'static str,
+    pub answer: fn(&Call) -> Option<String>,
+}
+
+/// Every slip: of padding, of hash, of session, of sheet.
+pub const SLIPS: [Slip; 17] = [
+    slip("padding-one-block", one_block),
+    slip("padding-rest-cleared", rest_cleared),
+    slip("padding-inside-unjudged", inside_unjudged),
+    slip("padding-32-bit-length", short_length),
+    slip("hash-length-in-bytes", length_in_bytes),
+    slip("hash-tail-uncleared", tail_uncleared),
+    slip("hash-dirty-tail-taken", dirty_tail_taken),
+    slip("hash-limit-refused", limit_refused),
+    slip("hash-start-words", start_words),
+    slip("hash-30-bytes-compared", thirty_compared),
+    slip("session-note-cut", note_cut),
+    slip("session-full-waits", full_waits),
+    slip("session-part-taken", delivered_in_part),
+    slip("session-state-kept", state_kept),
+    slip("session-decided-unjudged", decided_unjudged),
+    slip("sheet-loop-below", sheet_loop_below),
+    slip("sheet-refused-lists", refused_lists),
+];
+
+const fn slip(name: &'static str, answer: fn(&Call) -> Option<String>) -> Slip {
+    Slip { name, answer }
+}
+
+/// A remainder of 56..63 bytes is padded into one block.
+fn one_block(call: &Call) -> Option<String> {
+    let Call::PadWrite { message, buffer } = call else {
+        return None;
+    };
+    let message = message.bytes()?;
+    let kept = message.len() % 64;
+    if kept < 56 || buffer.len() < 64 {
+        return None;
+    }
+    let mut after = buffer.clone();
+    after[..kept].copy_from_slice(&message[message.len() - kept..]);
+    after[kept..64].fill(0);
+    after[56..64].copy_from_slice(&(8 * message.len() as u64).to_be_bytes());
+    Some(written_text(0, 64, &after))
+}
+
+/// The buffer's later bytes are made zero.
+fn rest_cleared(call: &Call) -> Option<String> {
+    let Call::PadWrite { message, buffer } = call else {
+        return None;
+    };
+    let mut after = buffer.clone();
+    let written = padding::write(message.bytes()?, &mut after);
+    if written.number == 0 {
+        after[written.count..].fill(0);
+    }
+    Some(written_text(written.number, written.count, &after))
+}
+
+/// For a block inside the message the tail buffer is not judged.
+fn inside_unjudged(call: &Call) -> Option<String> {
+    let Call::Block {
+        part,
+        message,
+        buffer,
+        block,
+    } = call
+    else {
+        return None;
+    };
+    let message = message.bytes()?;
+    if padding::view_number(message, buffer, *block) != 13 || *block >= message.len() as u64 / 64 {
+        return None;
+    }
+    let place = padding::place(message.len() as u64, *block);
+    Some(if *part {
+        part_text(&place, message, buffer)
+    } else {
+        "0".to_string()
+    })
+}
+
+/// Only the last four bytes of the length are looked at.
+fn short_length(call: &Call) -> Option<String> {
+    let Call::Remove { bytes, .. } = call else {
+        return None;
+    };
+    let mut bytes = bytes.clone();
+    let end = bytes.len().checked_sub(8)?;
+    bytes[end..end + 4].fill(0);
+    answer(&Call::Remove { part: false, bytes }).filter(|_| call.name() == "remove_number")
+}
+
+/// The length is written in bytes.
+fn length_in_bytes(call: &Call) -> Option<String> {
+    let ended = |state: &State| {
+        let kept = (state.total % 64) as usize;
+        let mut bytes = state.tail[..kept].to_vec();
+        bytes.extend_from_slice(&padding::added(state.total));
+        let end = bytes.len() - 8;
+        bytes[end..].copy_from_slice(&state.total.to_be_bytes());
+        sm3::to_bytes(&sm3::fold(&state.words, &bytes))
+    };
+    match call {
+        Call::Finish { state } if state.in_order() => Some(digest_text(Digested {
+            number: 0,
+            digest: ended(state),
+        })),
+        Call::CompareState { state, expected } if state.in_order() && expected.len() == 32 => {
+            Some(comparison_text(Compared {
+                number: 0,
+                same: ended(state)[..] == expected[..],
+            }))
+        }
+        _ => None,
+    }
+}
+
+/// Tail bytes after the kept ones stay as they were.
+fn tail_uncleared(call: &Call) -> Option<String> {
+    let Call::Update { state, piece, .. } = call else {
+        return None;
+    };
+    let mut after = *state;
+    if after.update(piece.bytes()?) != 0 {
+        return None;
+    }
+    let kept = (after.total % 64) as usize;
+    after.tail[kept..].copy_from_slice(&state.tail[kept..]);
+    Some(updated_text(0, &after))
+}
+
+/// A state with a dirty tail is taken for one in order.
+fn dirty_tail_taken(call: &Call) -> Option<String> {
+    let mut call = call.clone();
+    match &mut call {
+        Call::Update { state, .. } | Call::Finish { state } | Call::CompareState { state, .. } => {
+            let kept = (state.total % 64) as usize;
+            state.tail[kept..].fill(0);
+        }
+        _ => return None,
+    }
+    answer(&call)
+}
+
+/// The longest total of all is refused.
+fn limit_refused(call: &Call) -> Option<String> {
+    let Call::Update { state, piece, .. } = call else {
+        return None;
+    };
+    let full = state.in_order() && LONGEST - state.total == piece.length();
+    full.then(|| updated_text(10, state))
+}
+
+/// Every state is gone on with from the start words.
+fn start_words(call: &Call) -> Option<String> {
+    let Call::Update { state, piece, .. } = call else {
+        return None;
+    };
+    let mut after = State {
+        words: sm3::START,
+        ..*state
+    };
+    let number = after.update(piece.bytes()?);
+    (number == 0).then(|| updated_text(0, &after))
+}
+
+/// The last two bytes of a digest are not compared.
+fn thirty_compared(call: &Call) -> Option<String> {
+    let Call::CompareState { state, expected } = call else {
+        return None;
+    };
+    let ended = state.finish();
+    if ended.number != 0 || expected.len() != 32 {
+        return None;
+    }
+    Some(comparison_text(Compared {
+        number: 0,
+        same: ended.digest[..30] == expected[..30],
+    }))
+}
+
+/// The note is cut to a byte.
+fn note_cut(call: &Call) -> Option<String> {
+    let mut call = call.clone();
+    match &mut call {
+        Call::Deliver { note, .. } | Call::Ask { note, .. } => *note %= 256,
+        _ => return None,
+    }
+    answer(&call)
+}
+
+/// A waiting slot that took its whole length is in order.
+fn full_waits(call: &Call) -> Option<String> {
+    let Call::Ask { session, note, .. } = call else {
+        return None;
+    };
+    let slot = session.slots.get((*note as usize).checked_sub(1)?)?;
+    let record = &slot.record;
+    let full = slot.status == WAITING
+        && slot.state.in_order()
+        && slot.state.total == record.length
+        && record.length_allowed()
+        && record.loop_allowed();
+    full.then(|| format!("0\t{WAITING}\t{}", record.length))
+}
+
+/// What fits of a refused piece is taken.
+fn delivered_in_part(call: &Call) -> Option<String> {
+    let Call::Deliver {
+        session,
+        note,
+        piece: Lent::Bytes(piece),
+        ..
+    } = call
+    else {
+        return None;
+    };
+    let mut after = **session;
+    let answer = part_taken(&mut after, *note, piece);
+    Some(delivered_text(&answer, &after))
+}
+
+/// A decided slot keeps the hash state it was decided by.
+fn state_kept(call: &Call) -> Option<String> {
+    let Call::Deliver {
+        session,
+        note,
+        piece: Lent::Bytes(piece),
+        ..
+    } = call
+    else {
+        return None;
+    };
+    let mut after = **session;
+    let answer = after.deliver(*note, piece);
+    if answer.number == 0 && matches!(answer.status, OPEN | SHUT) {
+        let place = *note as usize - 1;
+        after.slots[place].state = session.slots[place].state;
+        after.slots[place].state.update(piece);
+    }
+    Some(delivered_text(&answer, &after))
+}
+
+/// A decided slot's hash state is not judged.
+fn decided_unjudged(call: &Call) -> Option<String> {
+    let mut call = call.clone();
+    let session: &mut Session = match &mut call {
+        Call::Ask { session, .. } => session,
+        _ => return None,
+    };
+    for slot in &mut session.slots {
+        if matches!(slot.status, OPEN | SHUT) {
+            slot.state = State::fresh();
+        }
+    }
+    answer(&call)
+}
+
+/// `<` for `<=` at the loop's end.
+fn sheet_loop_below(call: &Call) -> Option<String> {
+    let Call::SheetRead { text, .. } = call else {
+        return None;
+    };
+    Some(sheet_text(&loop_below(text)))
+}
+
+/// The notes before a refused line stay listed.
+fn refused_lists(call: &Call) -> Option<String> {
+    let Call::SheetRead { text, .. } = call else {
+        return None;
+    };
+    let mut judged = sheet::read(text);
+    let notes = judged.line.checked_sub(2)? as usize;
+    let lines = text.split_inclusive(|byte| *byte == b'\n');
+    let mut before = format!("RANK\t1\t{notes}\n").into_bytes();
+    before.extend(lines.skip(1).take(notes).flatten());
+    judged.session = sheet::read(&before).session;
+    Some(sheet_text(&judged))
+}

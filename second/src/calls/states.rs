@@ -1,0 +1,257 @@
+//! Hash states of every kind, and the calls over them.
+
+use crate::calls::call::Call;
+use crate::calls::kinds::Wish;
+use crate::calls::values::Lent;
+use crate::hash::{self, State};
+use crate::making::random::Random;
+use crate::padding::LONGEST;
+
+/// The longest slice that can be lent at all.
+pub const LONGEST_SLICE: u64 = (1 << 63) - 1;
+
+/// Totals at the edge of something, most of them in order.
+const TOTALS: [u64; 22] = [
+    0,
+    1,
+    55,
+    56,
+    63,
+    64,
+    65,
+    128,
+    (1 << 29) - 1,
+    (1 << 32) - 1,
+    1 << 32,
+    LONGEST - 64,
+    LONGEST - 63,
+    LONGEST - 8,
+    LONGEST - 7,
+    LONGEST - 1,
+    LONGEST,
+    LONGEST + 1,
+    LONGEST + 2,
+    1 << 62,
+    1 << 63,
+    u64::MAX,
+];
+
+pub fn fresh(_wish: &mut Wish) -> Call {
+    Call::Fresh
+}
+
+pub fn update(wish: &mut Wish) -> Call {
+    let state = state(&mut wish.random, wish.ordinal);
+    let length = piece_length(&mut wish.random, &state);
+    Call::Update {
+        in_place: wish.in_place(),
+        piece: Lent::Bytes(wish.random.bytes(length)),
+        state,
+    }
+}
+
+/// A piece that takes a state in order past the longest total.
+pub fn update_absent(wish: &mut Wish) -> Call {
+    let random = &mut wish.random;
+    let total = match random.below(3) {
+        0 => random.pick(&TOTALS).min(LONGEST),
+        1 => LONGEST - random.below(300),
+        _ => random.below(1 << 61),
+    };
+    let most = LONGEST_SLICE;
+    let past = LONGEST - total + 1;
+    let any = random.within(past, most);
+    let length = random.pick(&[past, past + 1, LONGEST + 1, most - 1, most, any]);
+    Call::Update {
+        in_place: wish.in_place(),
+        state: in_order(&mut wish.random, total),
+        piece: Lent::Absent(length.max(past)),
+    }
+}
+
+pub fn finish(wish: &mut Wish) -> Call {
+    Call::Finish {
+        state: state(&mut wish.random, wish.ordinal),
+    }
+}
+
+pub fn digest(wish: &mut Wish) -> Call {
+    let length = message_length(&mut wish.random, wish.ordinal);
+    Call::Digest {
+        message: Lent::Bytes(wish.random.bytes(length)),
+    }
+}
+
+pub fn digest_absent(wish: &mut Wish) -> Call {
+    Call::Digest {
+        message: too_long(&mut wish.random),
+    }
+}
+
+pub fn compare_message(wish: &mut Wish) -> Call {
+    let length = any_length(&mut wish.random);
+    let message = wish.random.bytes(length);
+    let right = hash::digest(&message).digest;
+    Call::CompareMessage {
+        expected: expected(wish, right),
+        message: Lent::Bytes(message),
+    }
+}
+
+pub fn compare_message_absent(wish: &mut Wish) -> Call {
+    let expected = expected(wish, [0; 32]);
+    Call::CompareMessage {
+        message: too_long(&mut wish.random),
+        expected,
+    }
+}
+
+pub fn compare_state(wish: &mut Wish) -> Call {
+    let turn = wish.random.word();
+    let state = state(&mut wish.random, turn);
+    // All zero for a state that is not in order: still no.
+    let right = state.finish().digest;
+    Call::CompareState {
+        expected: expected(wish, right),
+        state,
+    }
+}
+
+/// The right digest, one wrong by a bit (in each byte in turn), one of another
+/// length, or any 32 bytes.
+fn expected(wish: &mut Wish, right: [u8; 32]) -> Vec<u8> {
+    let random = &mut wish.random;
+    let mut digest = right.to_vec();
+    match wish.ordinal % 5 {
+        0 | 1 => (),
+        2 => digest[wish.ordinal as usize / 5 % 32] ^= random.bit(),
+        3 => {
+            let length = random.pick(&[0, 1, 31, 33, 64]);
+            digest.extend_from_slice(&right);
+            digest.truncate(length);
+        }
+        _ => {
+            let all = [[0; 32], [255; 32], random.digest()];
+            digest = random.pick(&all).to_vec();
+        }
+    }
+    digest
+}
+
+/// A message of more bytes than can be hashed.
+pub fn too_long(random: &mut Random) -> Lent {
+    let first = LONGEST + 1;
+    let any = random.within(first, LONGEST_SLICE);
+    Lent::Absent(random.pick(&[
+        first,
+        first + 1,
+        first + 55,
+        first + 56,
+        first + 64,
+        1 << 62,
+        LONGEST_SLICE - 64,
+        LONGEST_SLICE,
+        any,
+    ]))
+}
+
+/// Every length up to 200 in turn; now and then some thousands.
+pub fn message_length(random: &mut Random, ordinal: u64) -> usize {
+    if random.one_in(50) {
+        return random.within(1000, 5000) as usize;
+    }
+    (ordinal % 201) as usize
+}
+
+/// A length for a call whose turns go through something else: two things that
+/// go by one count would only meet in step.
+pub fn any_length(random: &mut Random) -> usize {
+    let turn = random.word();
+    message_length(random, turn)
+}
+
+/// A state in order or not, by turns.
+pub fn state(random: &mut Random, ordinal: u64) -> State {
+    let total = total(random);
+    match ordinal % 8 {
+        0..=2 => reached(random),
+        3 | 4 => in_order(random, total),
+        5 => dirty(random, total),
+        6 => {
+            let total = random.below(1 << 61);
+            dirty(random, total)
+        }
+        _ => State {
+            total,
+            tail: std::array::from_fn(|_| random.word() as u8),
+            ..any_words(random)
+        },
+    }
+}
+
+fn total(random: &mut Random) -> u64 {
+    match random.below(4) {
+        0 => random.below(300),
+        1 => LONGEST - random.below(300),
+        2 => random.word(),
+        _ => random.pick(&TOTALS),
+    }
+}
+
+/// A state that some message leads to.
+fn reached(random: &mut Random) -> State {
+    let mut state = State::fresh();
+    let length = random.below(300) as usize;
+    assert_eq!(state.update(&random.bytes(length)), 0);
+    state
+}
+
+fn any_words(random: &mut Random) -> State {
+    State {
+        words: std::array::from_fn(|_| random.word() as u32),
+        total: 0,
+        tail: [0; 64],
+    }
+}
+
+/// Any words and kept bytes, zero after them; in order if the total is.
+pub fn in_order(random: &mut Random, total: u64) -> State {
+    let mut state = any_words(random);
+    state.total = total;
+    let kept = (total % 64) as usize;
+    state.tail[..kept].copy_from_slice(&random.bytes(kept));
+    state
+}
+
+/// Not in order: the first byte after the kept ones, the last, one of them,
+/// or all are not zero.
+pub fn dirty(random: &mut Random, total: u64) -> State {
+    let mut state = in_order(random, total);
+    let kept = (total % 64) as usize;
+    let any = random.within(kept as u64, 63) as usize;
+    match random.below(4) {
+        0 => state.tail[kept] = random.bit(),
+        1 => state.tail[63] = random.bit(),
+        2 => state.tail[any] = random.bit(),
+        _ => state.tail[kept..].fill(0xff),
+    }
+    state
+}
+
+/// Around what still fits, around a full block, or any up to 200; now and then
+/// some thousands.
+fn piece_length(random: &mut Random, state: &State) -> usize {
+    let kept = state.total % 64;
+    let room = LONGEST.saturating_sub(state.total);
+    let around = if room <= 300 {
+        room
+    } else {
+        random.pick(&[64, 128]) - kept
+    };
+    match random.below(40) {
+        0 => random.within(1000, 5000) as usize,
+        1..=3 => 0,
+        4..=20 => (around + 1).saturating_sub(random.below(3)) as usize,
+        _ => random.below(201) as usize,
+    }
+}

@@ -1,0 +1,176 @@
+//! How values are written in a call and in its answers.
+
+use crate::hash::State;
+use crate::session::{Record, Session, Slot, NOTES};
+use crate::sheet::hex_value;
+
+/// A lent slice: its bytes, or only a length that no memory holds.
+#[derive(Clone, Debug, PartialEq, Eq)]
+pub enum Lent {
+    Bytes(Vec<u8>),
+    Absent(u64),
+}
+
+impl Lent {
+    pub fn length(&self) -> u64 {
+        match self {
+            Lent::Bytes(bytes) => bytes.len() as u64,
+            Lent::Absent(length) => *length,
+        }
+    }
+
+    /// The bytes, where they are there.
+    pub fn bytes(&self) -> Option<&[u8]> {
+        match self {
+            Lent::Bytes(bytes) => Some(bytes),
+            Lent::Absent(_) => None,
+        }
+    }
+}
+
+/// Two digits a byte, and nothing for none.
+fn hex(bytes: &[u8]) -> String {
+    const DIGITS: &[u8; 16] = b"0123456789abcdef";
+    let mut text = String::with_capacity(2 * bytes.len());
+    for byte in bytes {
+        text.push(char::from(DIGITS[usize::from(byte >> 4)]));
+        text.push(char::from(DIGITS[usize::from(byte & 15)]));
+    }
+    text
+}
+
+fn parse_hex(text: &str) -> Option<Vec<u8>> {
+    let digits = text.as_bytes();
+    if !digits.len().is_multiple_of(2) || digits.iter().any(|digit| hex_value(*digit) == 255) {
+        return None;
+    }
+    let pairs = digits.chunks(2);
+    Some(
+        pairs
+            .map(|two| 16 * hex_value(two[0]) + hex_value(two[1]))
+            .collect(),
+    )
+}
+
+/// Exactly so many bytes.
+fn parse_array<const N: usize>(text: &str) -> Option<[u8; N]> {
+    parse_hex(text)?.try_into().ok()
+}
+
+pub fn bytes_text(bytes: &[u8]) -> String {
+    if bytes.is_empty() {
+        return "-".to_string();
+    }
+    hex(bytes)
+}
+
+pub fn parse_bytes(text: &str) -> Option<Vec<u8>> {
+    match text {
+        "-" => Some(Vec::new()),
+        "" => None,
+        _ => parse_hex(text),
+    }
+}
+
+pub fn lent_text(lent: &Lent) -> String {
+    match lent {
+        Lent::Bytes(bytes) => bytes_text(bytes),
+        Lent::Absent(length) => format!("@{length}"),
+    }
+}
+
+pub fn parse_lent(text: &str) -> Option<Lent> {
+    match text.strip_prefix('@') {
+        Some(length) => parse_number(length).map(Lent::Absent),
+        None => parse_bytes(text).map(Lent::Bytes),
+    }
+}
+
+/// Decimal digits and nothing else, below 2^64.
+pub fn parse_number(text: &str) -> Option<u64> {
+    let digits = text.bytes().all(|byte| byte.is_ascii_digit());
+    digits.then(|| text.parse().ok()).flatten()
+}
+
+pub fn state_text(state: &State) -> String {
+    let words: Vec<u8> = state.words.iter().flat_map(|w| w.to_be_bytes()).collect();
+    format!("{}:{}:{}", hex(&words), state.total, hex(&state.tail))
+}
+
+pub fn parse_state(text: &str) -> Option<State> {
+    let fields: Vec<&str> = text.split(':').collect();
+    let [words, total, tail] = fields[..] else {
+        return None;
+    };
+    let bytes: [u8; 32] = parse_array(words)?;
+    let mut words = [0; 8];
+    for (word, four) in words.iter_mut().zip(bytes.chunks(4)) {
+        *word = u32::from_be_bytes([four[0], four[1], four[2], four[3]]);
+    }
+    Some(State {
+        words,
+        total: parse_number(total)?,
+        tail: parse_array(tail)?,
+    })
+}
+
+fn slot_text(slot: &Slot) -> String {
+    let record = &slot.record;
+    format!(
+        "{}:{}:{}:{}:{}:{}",
+        record.length,
+        record.loop_start,
+        record.loop_end,
+        hex(&record.digest),
+        state_text(&slot.state),
+        slot.status
+    )
+}
+
+fn parse_slot(text: &str) -> Option<Slot> {
+    let (rest, status) = text.rsplit_once(':')?;
+    let fields: Vec<&str> = rest.splitn(5, ':').collect();
+    let [length, loop_start, loop_end, digest, state] = fields[..] else {
+        return None;
+    };
+    Some(Slot {
+        record: Record {
+            length: parse_number(length)?,
+            loop_start: parse_number(loop_start)?,
+            loop_end: parse_number(loop_end)?,
+            digest: parse_array(digest)?,
+        },
+        state: parse_state(state)?,
+        status: u8::try_from(parse_number(status)?).ok()?,
+    })
+}
+
+pub fn session_text(session: &Session) -> String {
+    let listed: Vec<String> = (1..=NOTES)
+        .zip(&session.slots)
+        .filter(|(_, slot)| **slot != Slot::UNLISTED)
+        .map(|(note, slot)| format!("{note}={}", slot_text(slot)))
+        .collect();
+    if listed.is_empty() {
+        return "-".to_string();
+    }
+    listed.join(",")
+}
+
+pub fn parse_session(text: &str) -> Option<Session> {
+    let mut session = Session::unlisted();
+    if text == "-" {
+        return Some(session);
+    }
+    let mut last = 0;
+    for entry in text.split(',') {
+        let (note, slot) = entry.split_once('=')?;
+        let note = parse_number(note)?;
+        if note <= last || note > NOTES {
+            return None;
+        }
+        session.slots[note as usize - 1] = parse_slot(slot)?;
+        last = note;
+    }
+    Some(session)
+}

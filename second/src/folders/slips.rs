@@ -1,0 +1,165 @@
+//! Copies of the program, each with one mistake, to show that the comparison
+//! of folders finds it. Nothing else uses them.
+
+use crate::program::PIECE;
+use crate::session::{Answer, Session, NOTES};
+use crate::sheet::{self, Sheet};
+use std::path::Path;
+
+/// A mistaken program: the three places where the copies go wrong.
+pub struct Slip {
+    pub name: &'static str,
+    read: fn(&[u8]) -> Sheet,
+    deliver: fn(&mut Session, u64, &[u8]) -> Answer,
+    stops: bool,
+}
+
+/// Every slip.
+pub const SLIPS: [Slip; 7] = [
+    Slip {
+        name: "loop-below",
+        read: loop_below,
+        ..HONEST
+    },
+    Slip {
+        name: "after-refusal",
+        stops: false,
+        ..HONEST
+    },
+    Slip {
+        name: "part-taken",
+        deliver: part_taken,
+        ..HONEST
+    },
+    Slip {
+        name: "last-line-unended",
+        read: last_line_unended,
+        ..HONEST
+    },
+    Slip {
+        name: "carriage-returns",
+        read: carriage_returns,
+        ..HONEST
+    },
+    Slip {
+        name: "text-after",
+        read: text_after,
+        ..HONEST
+    },
+    Slip {
+        name: "line-from-zero",
+        read: line_from_zero,
+        ..HONEST
+    },
+];
+
+const HONEST: Slip = Slip {
+    name: "",
+    read: sheet::read,
+    deliver: Session::deliver,
+    stops: true,
+};
+
+impl Slip {
+    /// Everything the mistaken program prints for a folder.
+    pub fn load(&self, folder: &Path) -> Vec<u8> {
+        let text = std::fs::read(folder.join("rank.txt")).unwrap_or_default();
+        let sheet = (self.read)(&text[..text.len().min(PIECE)]);
+        if sheet.number != 0 {
+            return format!("refused\t{}\t{}\n", sheet.number, sheet.line).into_bytes();
+        }
+        let mut session = sheet.session;
+        let mut printed = String::new();
+        for note in (1..=NOTES).filter(|note| sheet.session.ask(*note).number == 0) {
+            let file = folder.join(format!("{note:02}.raw"));
+            for piece in std::fs::read(file).unwrap_or_default().chunks(PIECE) {
+                let number = (self.deliver)(&mut session, note, piece).number;
+                if number != 0 && self.stops {
+                    break;
+                }
+            }
+            let answer = session.ask(note);
+            let word = ["none", "waiting", "open", "shut"][usize::from(answer.status)];
+            printed.push_str(&format!("{note}\t{word}\t{}\n", answer.taken));
+        }
+        printed.into_bytes()
+    }
+}
+
+/// `<` for `<=` at the loop's end.
+pub fn loop_below(text: &[u8]) -> Sheet {
+    let mut sheet = sheet::read(text);
+    let listed = sheet.session.slots.iter().filter(|slot| slot.status != 0);
+    let first = listed
+        .enumerate()
+        .find(|(_, slot)| slot.record.loop_end == slot.record.length / 2);
+    if let Some((place, _)) = first {
+        sheet = refused(4, place as u64 + 2);
+    }
+    sheet
+}
+
+/// What fits of a refused piece is taken, and decides the note.
+pub fn part_taken(session: &mut Session, note: u64, piece: &[u8]) -> Answer {
+    let answer = session.deliver(note, piece);
+    if answer.number != 8 {
+        return answer;
+    }
+    let slot = &session.slots[note as usize - 1];
+    let fits = (slot.record.length - slot.state.total) as usize;
+    Answer {
+        number: 8,
+        ..session.deliver(note, &piece[..fits])
+    }
+}
+
+/// The last line is taken without its LF.
+fn last_line_unended(text: &[u8]) -> Sheet {
+    let mut text = text.to_vec();
+    if !text.is_empty() && !text.ends_with(b"\n") {
+        text.push(b'\n');
+    }
+    sheet::read(&text)
+}
+
+/// CR LF is taken for LF.
+fn carriage_returns(text: &[u8]) -> Sheet {
+    let lines: Vec<&[u8]> = text
+        .split(|byte| *byte == b'\n')
+        .map(|line| line.strip_suffix(b"\r").unwrap_or(line))
+        .collect();
+    sheet::read(&lines.join(&b'\n'))
+}
+
+/// Text after the notes is not seen.
+fn text_after(text: &[u8]) -> Sheet {
+    let judged = sheet::read(text);
+    let mut read = 0;
+    for _ in 1..judged.line {
+        read += text[read..]
+            .iter()
+            .position(|byte| *byte == b'\n')
+            .map_or(0, |end| end + 1);
+    }
+    let cut = sheet::read(&text[..read]);
+    if cut.number == 0 {
+        cut
+    } else {
+        judged
+    }
+}
+
+/// A refused line is counted from 0.
+fn line_from_zero(text: &[u8]) -> Sheet {
+    let mut sheet = sheet::read(text);
+    sheet.line = sheet.line.saturating_sub(1);
+    sheet
+}
+
+fn refused(number: u8, line: u64) -> Sheet {
+    Sheet {
+        number,
+        line,
+        session: Session::unlisted(),
+    }
+}

@@ -1,0 +1,19 @@
+//! The second implementation of Veenstipper, written from the paper alone.
+//!
+//! It exists to disagree with the proved one where one of the two is wrong, so
+//! it is plain and slow, and shares neither code nor table with it.
+//!
+//! The drivers `folders` and `calls` hold the two against each other.
+
+pub mod calls;
+pub mod folders;
+pub mod hash;
+pub mod making;
+pub mod options;
+pub mod padding;
+pub mod program;
+pub mod report;
+pub mod session;
+pub mod sheet;
+pub mod sm3;
+pub mod vectors;

@@ -1,0 +1,79 @@
+//! The command as it is called: what it prints and its exit status.
+
+use crate::help;
+use std::process::{Command, Output};
+
+const DATA: &str = concat!(env!("CARGO_MANIFEST_DIR"), "/tests/data");
+
+fn call(arguments: &[&str]) -> Output {
+    Command::new(env!("CARGO_BIN_EXE_second"))
+        .args(arguments)
+        .output()
+        .unwrap()
+}
+
+fn said(output: &Output) -> &str {
+    std::str::from_utf8(&output.stdout).unwrap()
+}
+
+#[test]
+fn vectors_that_agree() {
+    let output = call(&["vectors", DATA, "abc.txt", "short.txt"]);
+    let expected = "abc.txt\tmessages 1\twords 68\tprimed 64\trows 65\tchained 1\t\
+         padded 16\tdigests 1\tdiffer 0\n\
+         short.txt\tmessages 2\twords 0\tprimed 0\trows 0\tchained 0\t\
+         padded 33\tdigests 2\tdiffer 0\n";
+    assert_eq!(said(&output), expected);
+    assert_eq!(output.status.code(), Some(0));
+}
+
+#[test]
+fn vectors_that_differ() {
+    let output = call(&["vectors", DATA, "wrong.txt", "short.txt"]);
+    assert!(said(&output).starts_with("differ wrong.txt line 3\ndiffer wrong.txt line 5\n"));
+    assert!(said(&output).contains("\tdigests 1\tdiffer 14\nshort.txt\t"));
+    assert_eq!(output.status.code(), Some(1));
+}
+
+#[test]
+fn vectors_that_are_missing() {
+    let output = call(&["vectors", DATA, "nowhere.txt"]);
+    assert_eq!(said(&output), "missing nowhere.txt\n");
+    assert_eq!(output.status.code(), Some(1));
+}
+
+#[test]
+fn load_prints_what_the_program_prints() {
+    let folder = help::folder("command");
+    let text = help::sheet(&["RANK 1 1", "3 2 0 1 Z"]);
+    std::fs::write(folder.join("rank.txt"), text).unwrap();
+    let output = call(&["load", folder.to_str().unwrap()]);
+    assert_eq!(said(&output), "3\twaiting\t0\n");
+    assert_eq!(output.status.code(), Some(0));
+}
+
+#[test]
+fn wrong_use_is_one_line_and_status_2() {
+    for arguments in [
+        &[][..],
+        &["load"],
+        &["load", "a", "b"],
+        &["vectors"],
+        &["vectors", "a"],
+        &["other", "a", "b"],
+        &["answer-calls", "a"],
+        &["folders"],
+        &["folders", "10", "1"],
+        &["folders", "0", "1", "true"],
+        &["calls", "10", "x", "true"],
+        &["calls", "10", "1", "--slip"],
+        &["print-calls", "10"],
+    ] {
+        let output = call(arguments);
+        assert_eq!(output.status.code(), Some(2), "{arguments:?}");
+        assert!(output.stdout.is_empty());
+        let complaint = String::from_utf8(output.stderr).unwrap();
+        assert_eq!(complaint.lines().count(), 1, "{complaint}");
+        assert!(complaint.contains("second vectors DIR FILE..."));
+    }
+}

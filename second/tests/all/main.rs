@@ -1,0 +1,19 @@
+//! All tests, in one crate so that they share their helpers.
+
+mod command;
+mod cuttings;
+mod drivers;
+mod examples;
+mod generated;
+mod help;
+mod hostile_slots;
+mod hostile_states;
+mod padding;
+mod program;
+mod refusals;
+mod removing;
+mod session;
+mod sheet;
+mod sheet_form;
+mod values;
+mod vectors;
