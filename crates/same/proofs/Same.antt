@@ -1,6 +1,6 @@
 -- `same` says whether two lists are equal, and so does the difference that is gathered byte by byte. Assumes nothing.
 use mathlib.Core.Path.{_≡_, refl, sym, ap, _∙_}
-use mathlib.Core.List.{List, [], _∷_}
+use mathlib.Core.List.{List, [], _∷_, _++_}
 use mathlib.Core.Bool.{Bool, true, false, _&&_, and-assoc, and-true}
 use Prim.Native.Nat.{ℕ, suc, _+_, _<_, _≤_}
 use native.Mathlib.Numerals.{add-one}
@@ -42,6 +42,15 @@ same-differ a b h e = not-both _ h (equal-same a b e)
 
 pub other-length : (a b : List ℕ) → (length a ≡ length b → ⊥) → same a b ≡ false
 other-length a b f = differ-same a b (λ e. f (ap length e))
+
+-- joined lists, the first parts as long: part by part
+pub same-join : (a b c d : List ℕ) → length a ≡ length b → same (a ++ c) (b ++ d) ≡ (same a b && same c d)
+unfolding same
+same-join [] [] c d h = refl
+same-join [] (y ∷ ys) c d h = absurd (omega arith)
+same-join (x ∷ xs) [] c d h = absurd (omega arith)
+same-join (x ∷ xs) (y ∷ ys) c d h =
+    rw (same-join xs ys c d (omega arith)) (sym (and-assoc (eqb x y) (same xs ys) (same c d)))
 
 -- nothing was gathered exactly when nothing was before and these two bytes are equal
 gathered : (d x y : ℕ) → eqb (bitOr d (bitXor x y)) 0 ≡ (eqb d 0 && eqb x y)

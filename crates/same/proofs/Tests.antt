@@ -1,6 +1,7 @@
 -- Tests that are joined by `and`, and tests that say the same. Assumes nothing.
 use mathlib.Core.Path.{_≡_, refl, sym, _∙_}
-use mathlib.Core.Bool.{Bool, true, false, _&&_, true≢false}
+use borrow.Author.Tests.{not-true, not-false}
+use mathlib.Core.Bool.{Bool, true, false, not, _&&_, true≢false}
 
 -- two tests, each of which holds where the other does
 pub agree : (p q : Bool) → (p ≡ true → q ≡ true) → (q ≡ true → p ≡ true) → p ≡ q
@@ -32,3 +33,10 @@ never false f = refl
 -- a test that is false does not hold
 pub not-both : (p : Bool) → p ≡ false → p ≡ true → ⊥
 not-both p f t = true≢false (sym t ∙ f)
+
+-- an answer r to the test p that was tried as `not r`
+pub refuted : {r p : Bool} → r ≡ p → not r ≡ true → p ≡ false
+refuted {r} {p} e h = sym e ∙ not-true r h
+
+pub confirmed : {r p : Bool} → r ≡ p → not r ≡ false → p ≡ true
+confirmed {r} {p} e h = sym e ∙ not-false r h

@@ -1,0 +1,203 @@
+/* Veenstipper: a proved loader of sampled organ ranks, for a C host.
+ *
+ * Every function may be handed any bytes, any state and any session at all: it ends, reads and writes only inside what it is lent, and
+ * refuses bad input by a number (VS_ACCEPTED is 0). The library keeps nothing between calls, allocates nothing and calls nothing but
+ * memcpy, memset and memmove, which the host supplies.
+ *
+ * Memory: every pointer is the host's and is lent for the call alone. A slice is a pointer and a number of bytes; of an empty slice the
+ * pointer may be anything but must not be null. Slices lent to be read may overlap each other; what a function writes (a `*` without
+ * const) must not overlap anything else lent to that call. States and sessions are plain values: copy them, store them, compare them.
+ */
+#ifndef VEENSTIPPER_H
+#define VEENSTIPPER_H
+
+#include <stdbool.h>
+#include <stddef.h>
+#include <stdint.h>
+
+#ifdef __cplusplus
+extern "C" {
+#endif
+
+/* ---- Refusal numbers -------------------------------------------------------------------------------------------------------------- */
+
+#define VS_ACCEPTED 0
+#define VS_FORM 1          /* sheet: form.                             Left: line number; session with no note listed                   */
+#define VS_COUNT_OR_NOTE 2 /* sheet: count or note.                    As 1                                                             */
+#define VS_LENGTH 3        /* sheet: length.                           As 1                                                             */
+#define VS_LOOP 4          /* sheet: loop.                             As 1                                                             */
+#define VS_UNLISTED 5      /* note 0, above 32, or unlisted.           Status 0, taken 0; session same                                  */
+#define VS_SLOT 6          /* slot not in order.                       Status 0, taken 0; session same                                  */
+#define VS_DECIDED 7       /* delivery to a decided note.              Status and taken as they stood; session same                     */
+#define VS_PAST_LENGTH 8   /* taken + piece exceeds length.            As they stood; nothing of the piece taken                        */
+#define VS_STATE 9         /* hash state not in order.                 State same; digest all zero, comparison no                       */
+#define VS_TOO_LONG 10     /* message total would pass 2^61 - 1.       State and buffers same; digest zero, comparison no, count 0      */
+#define VS_SIZE 11         /* tail buffer too short, or expected digest not 32 bytes. Buffers same; count 0, part empty, comparison no  */
+#define VS_NO_BLOCK 12     /* block number not below the block count.  Empty part                                                       */
+#define VS_OTHER_TAIL 13   /* tail buffer is not what vs_pad_write puts there for this message. Empty part                              */
+#define VS_NOT_PADDED 14   /* not a padded message.                    Empty part                                                       */
+
+/* ---- Statuses of a note ----------------------------------------------------------------------------------------------------------- */
+
+#define VS_NONE 0
+#define VS_WAITING 1
+#define VS_OPEN 2
+#define VS_SHUT 3
+
+#define VS_NOTES 32
+#define VS_BLOCK 64
+#define VS_DIGEST 32
+
+/* ---- Values ----------------------------------------------------------------------------------------------------------------------- */
+
+typedef struct {
+    uint32_t a, b, c, d, e, f, g, h;
+} vs_words;
+
+/* A hash state: eight words, the bytes taken so far, and the last total % 64 of them with zeros behind. */
+typedef struct {
+    vs_words words;
+    uint64_t total;
+    uint8_t tail[VS_BLOCK];
+} vs_hash;
+
+typedef struct {
+    uint8_t no;
+    vs_hash state;
+} vs_updated;
+
+typedef struct {
+    uint8_t no;
+    uint8_t bytes[VS_DIGEST];
+} vs_digest;
+
+typedef struct {
+    uint8_t no;
+    bool same;
+} vs_compared;
+
+typedef struct {
+    uint8_t no;
+    size_t count;
+} vs_written;
+
+/* Where a block lies: which 0 nowhere (refused), 1 in the message, 2 in the tail buffer; length 64 bytes from offset. */
+typedef struct {
+    uint8_t which;
+    size_t offset;
+    size_t length;
+} vs_part;
+
+/* What a sheet's line says of a note: length in bytes, loop in frames of two bytes. */
+typedef struct {
+    uint32_t length, start, end;
+    uint8_t digest[VS_DIGEST];
+} vs_record;
+
+typedef struct {
+    vs_record line;
+    vs_hash state;
+    uint8_t status;
+} vs_slot;
+
+/* 32 slots: slots[0] is note 1's. */
+typedef struct {
+    vs_slot slots[VS_NOTES];
+} vs_session;
+
+typedef struct {
+    uint8_t no;
+    uint8_t status;
+    uint64_t taken;
+} vs_answer;
+
+typedef struct {
+    vs_answer answer;
+    vs_session session;
+} vs_delivered;
+
+typedef struct {
+    uint8_t no;
+    uint32_t line;
+    vs_session session;
+} vs_sheet;
+
+/* What reading a sheet into a lent session answers. */
+typedef struct {
+    uint8_t no;
+    uint32_t line;
+} vs_judged;
+
+/* The sizes that the library was compiled with: a host whose compiler lays these out otherwise does not compile. */
+_Static_assert(sizeof(vs_hash) == 104, "vs_hash");
+_Static_assert(sizeof(vs_updated) == 112, "vs_updated");
+_Static_assert(sizeof(vs_digest) == 33, "vs_digest");
+_Static_assert(sizeof(vs_compared) == 2, "vs_compared");
+_Static_assert(sizeof(vs_record) == 44, "vs_record");
+_Static_assert(sizeof(vs_slot) == 160, "vs_slot");
+_Static_assert(sizeof(vs_session) == 5120, "vs_session");
+_Static_assert(sizeof(vs_answer) == 16, "vs_answer");
+_Static_assert(sizeof(vs_delivered) == 5136, "vs_delivered");
+_Static_assert(sizeof(vs_sheet) == 5128, "vs_sheet");
+
+/* ---- SM3 -------------------------------------------------------------------------------------------------------------------------- */
+
+/* The whole blocks of 64 bytes folded into eight words; bytes after the last whole block are not looked at. */
+vs_words vs_fold(vs_words words, const uint8_t *bytes, size_t length);
+
+/* The state of a message of which nothing has come. */
+vs_hash vs_fresh(void);
+
+/* The state with a piece more. Refusals 9, 10: the state as it was. */
+vs_updated vs_update(vs_hash state, const uint8_t *piece, size_t piece_length);
+
+/* The same in place: answers the number; *state is the new state, or as it was where the number is a refusal. */
+uint8_t vs_update_in_place(vs_hash *state, const uint8_t *piece, size_t piece_length);
+
+/* The digest of all that the state has taken. Refusal 9: all zero. */
+vs_digest vs_finish(vs_hash state);
+
+/* The digest of a whole message. Refusal 10: all zero. */
+vs_digest vs_digest_of(const uint8_t *message, size_t message_length);
+
+/* Whether the digest is the expected one; all 32 bytes are looked at whatever is found. Refusals 10 (9 of a state), 11: no. */
+vs_compared vs_compare_message(const uint8_t *message, size_t message_length, const uint8_t *expected, size_t expected_length);
+vs_compared vs_compare_state(vs_hash state, const uint8_t *expected, size_t expected_length);
+
+/* ---- Padded blocks ---------------------------------------------------------------------------------------------------------------- */
+
+/* Writes the message's last length % 64 bytes and the padding to the front of the buffer; count says how many bytes that are, 64 or 128.
+ * Later bytes of the buffer keep their content. Refusals 10, 11: count 0, buffer untouched. A buffer of 128 bytes always does. */
+vs_written vs_pad_write(const uint8_t *message, size_t message_length, uint8_t *buffer, size_t buffer_length);
+
+/* Block i of the padded message, given the message and the buffer that vs_pad_write filled: its number (10, 11, 13, 12), and where it lies. */
+uint8_t vs_block_number(const uint8_t *message, size_t message_length, const uint8_t *buffer, size_t buffer_length, size_t i);
+vs_part vs_block_part(const uint8_t *message, size_t message_length, const uint8_t *buffer, size_t buffer_length, size_t i);
+
+/* Whether bytes are a padded message (0 or 14), and how many of them, from the first, are the message (0 where they are not one). */
+uint8_t vs_remove_number(const uint8_t *bytes, size_t length);
+size_t vs_remove_part(const uint8_t *bytes, size_t length);
+
+/* ---- The rank sheet and the loading session ---------------------------------------------------------------------------------------- */
+
+/* The session of a sheet: every listed note waiting. Refusals 1 to 4 with the line; then no note is listed. An accepted sheet's line is 0. */
+vs_sheet vs_sheet_read(const uint8_t *text, size_t text_length);
+
+/* The same into a lent session, whatever it held: needs far less stack. */
+vs_judged vs_sheet_read_in_place(vs_session *session, const uint8_t *text, size_t text_length);
+
+/* A piece of a note's bytes. Refusals 5, 6, 7, 8: the session as it was. A note is open (VS_OPEN) from the moment its last byte is in and
+ * the digest fits, shut (VS_SHUT) if it does not fit, and stays so. */
+vs_delivered vs_deliver(vs_session session, uint64_t note, const uint8_t *piece, size_t piece_length);
+
+/* The same in place: only the note's own slot is copied, and written back. */
+vs_answer vs_deliver_in_place(vs_session *session, uint64_t note, const uint8_t *piece, size_t piece_length);
+
+/* A note's status and the bytes taken. Refusals 5, 6. */
+vs_answer vs_ask(vs_session session, uint64_t note);
+vs_answer vs_ask_in_place(const vs_session *session, uint64_t note);
+
+#ifdef __cplusplus
+}
+#endif
+#endif
