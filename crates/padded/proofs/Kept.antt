@@ -1,0 +1,86 @@
+-- The crate's promises, kept. Assumes nothing.
+use Prim.Native.Nat.{ℕ, _/_, _<_, _≤_}
+use mathlib.Core.Path.{_≡_, refl, sym, ap, _∙_}
+use mathlib.Core.Bool.{Bool, true, false}
+use mathlib.Core.List.{List, []}
+use borrow.Author.Tests.{eqb-false}
+use lib.ListN.{length, take}
+use Rattle.refusal.specs.Table.{accepted, too-long, wrong-size, other-tail, no-such-block, not-padded}
+use Rattle.same.specs.Same.{same}
+use Rattle.same.proofs.Same.{same-equal, equal-same, differ-same, same-differ}
+use Rattle.word.specs.BigEndian.{AreBytes}
+use Rattle.padding.specs.Padding.{longest, padded, blockCount}
+use Rattle.padding.specs.Writing.{tailOf, tailSize}
+use Rattle.padded.specs.Viewing.{viewNumber}
+use Rattle.padded.specs.Removing.{statedBits, isPadded, removeNumber, removePart}
+use Rattle.padded.specs.Promises.{Promises, Tailed, PaddedForm}
+use Rattle.padded.proofs.Viewed.{view-long, view-short, view-other, view-past, view-accepts, view-cases, viewed, not-long, not-short, not-other, not-past, not-there, no-part as no-block}
+use Rattle.padded.proofs.Joined.{block-is, all-blocks}
+use Rattle.padded.proofs.Removed.{accepts, refuses, part-of, no-part}
+use Rattle.padded.proofs.Forms.{form-padded, form-message, message-short, message-form}
+
+module _ (s b : List ℕ) (i : ℕ) where
+  is-long : viewNumber s b i ≡ too-long → longest < length s
+  is-long e = view-cases s b i (λ l. l) (not-short s b i e refl) (not-other s b i e refl) (not-past s b i e refl) (not-there s b i e refl)
+
+  is-short : viewNumber s b i ≡ wrong-size → (length s ≤ longest) × (length b < tailSize (length s))
+  is-short e = view-cases s b i (not-long s b i e refl) (λ w r. (w, r)) (not-other s b i e refl) (not-past s b i e refl) (not-there s b i e refl)
+
+  is-other : viewNumber s b i ≡ other-tail → (length s ≤ longest) × (tailSize (length s) ≤ length b) × (take (tailSize (length s)) b ≡ tailOf s → ⊥)
+  is-other e =
+      view-cases s b i (not-long s b i e refl) (not-short s b i e refl) (λ w r o. (w, r, same-differ _ _ o)) (not-past s b i e refl) (not-there s b i e refl)
+
+  tailed : length s ≤ longest → tailSize (length s) ≤ length b → same (take (tailSize (length s)) b) (tailOf s) ≡ true → Tailed s b
+  tailed w r t = record { short = w; roomy = r; tail = same-equal _ _ t }
+
+  is-past : viewNumber s b i ≡ no-such-block → Tailed s b × (blockCount (length s) ≤ i)
+  is-past e =
+      view-cases s b i (not-long s b i e refl) (not-short s b i e refl) (not-other s b i e refl) (λ w r t p. (tailed w r t, p)) (not-there s b i e refl)
+
+  is-there : viewNumber s b i ≡ accepted → Tailed s b × (i < blockCount (length s))
+  is-there e = let is = viewed s b i e in (tailed (is .within) (is .roomy) (is .tail), is .below)
+
+-- the remover's two answers
+module _ (b : List ℕ) where
+  answered : {P : Type 0} → (isPadded b ≡ true → P) → (isPadded b ≡ false → P) → P
+  answered {P} f g = by (isPadded b) refl
+    where
+      by : (p : Bool) → isPadded b ≡ p → P
+      by true e = f e
+      by false e = g e
+
+  accepted-padded : removeNumber b ≡ accepted → isPadded b ≡ true
+  accepted-padded e = answered (λ h. h) (λ h. absurd (eqb-false 0 14 refl (sym e ∙ sym (refuses b h))))
+
+  refused-not : (removeNumber b ≡ accepted → ⊥) → isPadded b ≡ false
+  refused-not f = answered (λ h. absurd (f (sym (accepts b h)))) (λ h. h)
+
+  has-form : AreBytes b → isPadded b ≡ true → PaddedForm b
+  has-form all h = record { message = take (statedBits b / 8) b; short = message-short b all h; form = message-form b all h }
+
+  form-is-padded : PaddedForm b → isPadded b ≡ true
+  form-is-padded f = rw (← (f .form)) (form-padded (f .message) (f .short))
+
+  form-removed : (f : PaddedForm b) → removePart b ≡ f .message
+  form-removed f = sym (part-of b (form-is-padded f)) ∙ rw (← (f .form)) (form-message (f .message) (f .short))
+
+pub kept : Promises
+kept =
+    record {
+      view = block-is;
+      views-joined = all-blocks;
+      view-accepted = λ s b i. (is-there s b i, λ h. view-accepts s b i (h .0 .short) (h .0 .roomy) (equal-same _ _ (h .0 .tail)) (h .1));
+      view-ten = λ s b i. (is-long s b i, view-long s b i);
+      view-eleven = λ s b i. (is-short s b i, λ h. view-short s b i (h .0) (h .1));
+      view-thirteen = λ s b i. (is-other s b i, λ h. view-other s b i (h .0) (h .1) (differ-same _ _ (h .2)));
+      view-twelve = λ s b i. (is-past s b i, λ h. view-past s b i (h .0 .short) (h .0 .roomy) (equal-same _ _ (h .0 .tail)) (h .1));
+      view-refused = λ s b i h. sym (no-block s b i h);
+      remover = λ b all. (λ e. has-form b all (accepted-padded b e), λ f. sym (accepts b (form-is-padded b f)));
+      remover-fourteen =
+          λ b all. (
+            λ e f. eqb-false 14 0 refl (sym e ∙ sym (accepts b (form-is-padded b f))),
+            λ n. sym (refuses b (refused-not b (λ e. n (has-form b all (accepted-padded b e))))),
+          );
+      removed = form-removed;
+      remover-refused = λ b h. sym (no-part b (refused-not b h));
+    }

@@ -1,0 +1,7 @@
+pub mod Scans
+pub mod Parts
+pub mod Viewed
+pub mod Removed
+pub mod Joined
+pub mod Forms
+pub mod Kept

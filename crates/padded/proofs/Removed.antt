@@ -1,0 +1,125 @@
+-- The remover: its tests one by one, and what is known where all hold. Assumes nothing.
+use Prim.Native.Nat.{ℕ, suc, _+_, _*_, _-_, _/_, _%_, _^_, _<_, _≤_}
+use mathlib.Core.Path.{_≡_, refl, sym, ap, _∙_}
+use mathlib.Core.Bool.{Bool, true, false, not, _&&_}
+use mathlib.Core.List.{List, []}
+use native.Mathlib.Omega.{arith}
+use borrow.Author.Tests.{lt-ltb, le-ltb, eq-eqb, ne-eqb, eqb-true, ltb-true, not-true, not-false}
+use lib.Dec.{ltb, eqb}
+use lib.ListN.{length, take}
+use lib.Seq.{length-take-le}
+use Rattle.refusal.specs.Table.{accepted, not-padded}
+use Rattle.same.proofs.Tests.{first, second}
+use Rattle.units.specs.declared.InBytes.{InBytes}
+use Rattle.units.specs.Units.{bytesOfBits}
+use Rattle.units.proofs.Exact.{whole, bytes-are, refutes-no}
+use Rattle.padding.specs.Padding.{blockCount}
+use Rattle.padded.specs.Removing.{statedBits, rightCount, rightFill, isPadded, removeNumber, removePart}
+
+module _ (b : List ℕ) where
+  pub no-bytes : length b ≡ 0 → false ≡ isPadded b
+  unfolding isPadded
+  no-bytes h = simp (le-ltb 0 (length b) (omega arith))
+
+  module _ (some : length b ≡ 0 → ⊥) where
+    pub broken-block : (length b % 64 ≡ 0 → ⊥) → false ≡ isPadded b
+    unfolding isPadded
+    broken-block h = simp (lt-ltb 0 (length b) (omega arith), ne-eqb (length b % 64) 0 h)
+
+    -- the stated bits as whole bytes
+    module _ (blocks : length b % 64 ≡ 0) (x : ℕ) (stated : x ≡ statedBits b) (r : InBytes) (is : r ≡ bytesOfBits (record { 0 = x })) where
+      pub broken-byte : not (r .exact) ≡ true → false ≡ isPadded b
+      unfolding isPadded rightCount
+      broken-byte h =
+          let none = refutes-no (ap (λ a. a .exact) (sym is) ∙ not-true (r .exact) h) (λ (p : x % 8 ≡ 0). ap (λ a. a .exact) (bytes-are (record { 0 = x }) p)) in
+          simp (lt-ltb 0 (length b) (omega arith), eq-eqb (length b % 64) 0 blocks, ne-eqb (statedBits b % 8) 0 (λ z. none (ap (λ n. n % 8) stated ∙ z)))
+
+      module _ (exact : not (r .exact) ≡ false) where
+        even : x % 8 ≡ 0
+        even = whole (record { 0 = x }) (ap (λ a. a .exact) (sym is) ∙ not-false (r .exact) exact)
+
+        value : r .bytes .0 ≡ statedBits b / 8
+        value = ap (λ a. a .bytes .0) (is ∙ bytes-are (record { 0 = x }) even) ∙ ap (λ n. n / 8) stated
+
+        module _ (n : ℕ) (count : n ≡ blockCount (r .bytes .0)) where
+          pub count-fits : x < 2 ^ 64 → 64 * n < 2 ^ 64
+          unfolding blockCount
+          count-fits h = let known = value in omega arith
+
+          pub wrong-count : (64 * n ≡ length b → ⊥) → false ≡ isPadded b
+          unfolding isPadded rightCount
+          wrong-count h =
+              simp (
+                lt-ltb 0 (length b) (omega arith),
+                eq-eqb (length b % 64) 0 blocks,
+                eq-eqb (statedBits b % 8) 0 (ap (λ n. n % 8) (sym stated) ∙ even),
+                ne-eqb (64 * blockCount (statedBits b / 8)) (length b) (λ z. h (ap (λ n. 64 * n) (count ∙ ap blockCount value) ∙ z)),
+              )
+
+          module _ (right : 64 * n ≡ length b) where
+            pub byte-there : r .bytes .0 + 9 ≤ length b
+            unfolding blockCount
+            byte-there = omega arith
+
+            pub then-fill : rightFill (r .bytes .0) b ≡ isPadded b
+            unfolding isPadded rightCount
+            then-fill =
+                rw (
+                  value,
+                  lt-ltb 0 (length b) (omega arith),
+                  eq-eqb (length b % 64) 0 blocks,
+                  eq-eqb (statedBits b % 8) 0 (ap (λ n. n % 8) (sym stated) ∙ even),
+                  eq-eqb (64 * blockCount (statedBits b / 8)) (length b) (ap (λ n. 64 * n) (sym (count ∙ ap blockCount value)) ∙ right),
+                )
+
+  -- what is known where all the tests hold
+  pub record Padded : Type 0 where
+    pub some : 0 < length b
+    pub bytes : statedBits b % 8 ≡ 0
+    pub count : 64 * blockCount (statedBits b / 8) ≡ length b
+    pub fill : rightFill (statedBits b / 8) b ≡ true
+
+  pub known : isPadded b ≡ true → Padded
+  unfolding isPadded rightCount
+  known h =
+      let some = ltb 0 (length b) in
+      let blocks = eqb (length b % 64) 0 in
+      let whole = eqb (statedBits b % 8) 0 in
+      let count = eqb (64 * blockCount (statedBits b / 8)) (length b) in
+      let fill = rightFill (statedBits b / 8) b in
+      let three = first (some && blocks && (whole && count)) fill h in
+      let two = first (some && blocks) (whole && count) three in
+      let right = second (some && blocks) (whole && count) three in
+      record {
+        some = ltb-true 0 (length b) (first some blocks two);
+        bytes = eqb-true (statedBits b % 8) 0 (first whole count right);
+        count = eqb-true (64 * blockCount (statedBits b / 8)) (length b) (second whole count right);
+        fill = second (some && blocks && (whole && count)) fill h;
+      }
+
+  pub is-padded : 0 < length b → statedBits b % 8 ≡ 0 → 64 * blockCount (statedBits b / 8) ≡ length b → rightFill (statedBits b / 8) b ≡ true → isPadded b ≡ true
+  unfolding isPadded rightCount
+  is-padded s e c f =
+      rw (lt-ltb 0 (length b) s, eq-eqb (length b % 64) 0 (omega arith), eq-eqb (statedBits b % 8) 0 e, eq-eqb (64 * blockCount (statedBits b / 8)) (length b) c, f)
+
+  -- number and part
+  pub accepts : isPadded b ≡ true → accepted ≡ removeNumber b
+  unfolding removeNumber
+  accepts h = rw h
+
+  pub refuses : isPadded b ≡ false → not-padded ≡ removeNumber b
+  unfolding removeNumber
+  refuses h = rw h
+
+  pub part-of : isPadded b ≡ true → take (statedBits b / 8) b ≡ removePart b
+  unfolding removePart
+  part-of h = rw h
+
+  pub no-part : isPadded b ≡ false → [] ≡ removePart b
+  unfolding removePart
+  no-part h = rw h
+
+  -- a padded message has room for its length and for itself
+  pub room : isPadded b ≡ true → (8 ≤ length b) × (statedBits b / 8 ≤ length b)
+  unfolding blockCount
+  room h = let is = known h in (omega arith, omega arith)

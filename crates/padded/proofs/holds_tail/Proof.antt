@@ -1,0 +1,64 @@
+-- `holds_tail` holds the tail against the message's last bytes, the fill and the stated length. Assumes nothing.
+use mathlib.Core.Path.{sym, ap, _∙_}
+use native.Mathlib.Omega.{arith}
+use borrow.Author.Needs.{needs}
+use Prim.Native.Nat.{_*_}
+use lib.Dec.{eqb}
+use lib.ListN.{length}
+use lib.Seq.{length-take-le}
+use Rattle.same.proofs.Tests.{refuted, confirmed}
+use Rattle.padding.proofs.Tails.{fills}
+use Rattle.padded.proofs.Parts.{are-bytes}
+use Rattle.padded.proofs.Viewed.{other-front, other-fill, right-tail}
+use Rattle.padded.proofs.holds_tail.Statement.{statement}
+use Rattle.padded.proofs.holds_tail.Tie as tie
+
+slice-aggregate-bytes : tie.Need-slice-aggregate-bytes
+slice-aggregate-bytes c =
+    let start = c .before .before .before in
+    sym (length-take-le _ _ (omega (arith, fills (length (start .args .message .now)), start .pre .1)))
+
+returns : tie.Need-returns
+returns c =
+    let start = c .before .before .before .before .before .before in
+    other-front _ _ (are-bytes _ (c .before .before .before .before .shared-slice-known2 .given)) (start .pre .0) (start .pre .1) (refuted (c .before .bytes .ensures) (c .if1 .taken))
+
+right-fill-requires : tie.Need-right-fill-requires
+right-fill-requires c κs =
+    let start = c .before .before .before .before .before .before in
+    omega (arith, fills (length (start .args .message .now)), start .pre .1)
+
+returns-2 : tie.Need-returns-2
+returns-2 c =
+    let start = c .before .before .before .before .before .before .before .before in
+    other-fill _ _ (are-bytes _ (c .before .before .before .before .before .before .shared-slice-known2 .given)) (start .pre .0) (start .pre .1) (confirmed (c .before .before .before .bytes .ensures) (c .before .before .if1 .left))
+    (refuted (c .before .right-fill .ensures) (c .if2 .taken))
+
+stated-bits-requires : tie.Need-stated-bits-requires
+stated-bits-requires c κs =
+    let start = c .before .before .before .before .before .before .before .before in
+    omega (arith, fills (length (start .args .message .now)), start .pre .1)
+
+returns-3 : tie.Need-returns-3
+returns-3 c =
+    let start = c .before .before .before .before .before .before .before .before .before in
+    ap (λ x. eqb x (length (start .args .message .now) * 8)) (c .stated-bits .ensures)
+    ∙ right-tail _ _ (are-bytes _ (c .before .before .before .before .before .before .before .shared-slice-known2 .given)) (start .pre .0) (start .pre .1) (confirmed (c .before .before .before .before .bytes .ensures) (c .before .before .before .if1 .left))
+    (confirmed (c .before .before .right-fill .ensures) (c .before .if2 .left))
+
+pub holds-tail-spec : {M : Type 1} → statement M
+holds-tail-spec =
+    tie.close
+    (tie.spec
+    (λ c. search needs)
+    slice-aggregate-bytes
+    (λ c. search needs)
+    (λ c. search needs)
+    (λ c. search needs)
+    (λ c κs. search needs)
+    returns
+    right-fill-requires
+    returns-2
+    stated-bits-requires
+    (λ c. search needs)
+    returns-3)

@@ -1,0 +1,3 @@
+pub mod Viewing
+pub mod Removing
+pub mod Promises

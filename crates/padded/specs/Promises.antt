@@ -1,0 +1,51 @@
+-- What the block view and the remover promise: document 01, "Padded blocks" and "Refusal numbers".
+use Prim.Native.Nat.{ℕ, zero, suc, _+_, _*_, _<_, _≤_}
+use mathlib.Core.Path.{_≡_}
+use mathlib.Core.Logic.{_↔_}
+use mathlib.Core.List.{List, [], _++_}
+use lib.ListN.{length, take, drop}
+use Rattle.refusal.specs.Table.{accepted, too-long, wrong-size, other-tail, no-such-block, not-padded}
+use Rattle.word.specs.BigEndian.{AreBytes}
+use Rattle.padding.specs.Padding.{longest, padded, blockCount}
+use Rattle.padding.specs.Writing.{tailOf, tailSize}
+use Rattle.padded.specs.Viewing.{viewNumber, viewPart}
+use Rattle.padded.specs.Removing.{removeNumber, removePart}
+
+-- the first n viewed blocks, joined
+unfoldable pub viewedBlocks : ℕ → List ℕ → List ℕ → List ℕ
+viewedBlocks zero message buffer = []
+viewedBlocks (suc n) message buffer = viewedBlocks n message buffer ++ viewPart message buffer n
+
+-- a message, and a buffer that begins with what the padding writer puts there for it
+pub record Tailed (message buffer : List ℕ) : Type 0 where
+  pub short : length message ≤ longest
+  pub roomy : tailSize (length message) ≤ length buffer
+  pub tail : take (tailSize (length message)) buffer ≡ tailOf message
+
+-- the bytes are the padded form of some message
+pub record PaddedForm (bytes : List ℕ) : Type 0 where
+  pub message : List ℕ
+  pub short : length message ≤ longest
+  pub form : padded message ≡ bytes
+
+pub record Promises : Type 0 where
+  -- block i of the padded message
+  pub view : (message buffer : List ℕ) (i : ℕ) → viewNumber message buffer i ≡ accepted → viewPart message buffer i ≡ take 64 (drop (64 * i) (padded message))
+  -- the viewed blocks, joined, are the padded message
+  pub views-joined : (message buffer : List ℕ) → Tailed message buffer → viewedBlocks (blockCount (length message)) message buffer ≡ padded message
+  -- 0, 10, 11, 13 and 12, each exactly when; the part of a refused view is empty
+  pub view-accepted : (message buffer : List ℕ) (i : ℕ) → (viewNumber message buffer i ≡ accepted) ↔ (Tailed message buffer × (i < blockCount (length message)))
+  pub view-ten : (message buffer : List ℕ) (i : ℕ) → (viewNumber message buffer i ≡ too-long) ↔ (longest < length message)
+  pub view-eleven : (message buffer : List ℕ) (i : ℕ) → (viewNumber message buffer i ≡ wrong-size) ↔ ((length message ≤ longest) × (length buffer < tailSize (length message)))
+  pub view-thirteen :
+      (message buffer : List ℕ) (i : ℕ) →
+      (viewNumber message buffer i ≡ other-tail)
+      ↔ ((length message ≤ longest) × (tailSize (length message) ≤ length buffer) × (take (tailSize (length message)) buffer ≡ tailOf message → ⊥))
+  pub view-twelve : (message buffer : List ℕ) (i : ℕ) → (viewNumber message buffer i ≡ no-such-block) ↔ (Tailed message buffer × (blockCount (length message) ≤ i))
+  pub view-refused : (message buffer : List ℕ) (i : ℕ) → (viewNumber message buffer i ≡ accepted → ⊥) → viewPart message buffer i ≡ []
+  -- bytes are accepted by the remover exactly when they are the padded form of some message of at most 2^61 - 1 bytes, else 14
+  pub remover : (bytes : List ℕ) → AreBytes bytes → (removeNumber bytes ≡ accepted) ↔ PaddedForm bytes
+  pub remover-fourteen : (bytes : List ℕ) → AreBytes bytes → (removeNumber bytes ≡ not-padded) ↔ (PaddedForm bytes → ⊥)
+  -- and the answer is that message; it is empty where the call is refused
+  pub removed : (bytes : List ℕ) (is : PaddedForm bytes) → removePart bytes ≡ is .message
+  pub remover-refused : (bytes : List ℕ) → (removeNumber bytes ≡ accepted → ⊥) → removePart bytes ≡ []

@@ -1,0 +1,28 @@
+-- "Viewing": document 01, "Padded blocks". Order of refusals: 10, 11, 13, 12.
+use Prim.Native.Nat.{ℕ, _+_, _*_, _-_, _/_}
+use mathlib.Core.List.{List, []}
+use mathlib.Core.Bool.{Bool, cond}
+use lib.Dec.{ltb, eqb}
+use lib.ListN.{length, take, drop}
+use Rattle.refusal.specs.Table.{accepted, too-long, wrong-size, other-tail, no-such-block}
+use Rattle.same.specs.Same.{same}
+use Rattle.padding.specs.Padding.{longest, blockCount}
+use Rattle.padding.specs.Writing.{tailOf, tailSize}
+
+-- the number for block i of the padded message, given the message and the tail buffer
+unfoldable pub viewNumber : List ℕ → List ℕ → ℕ → ℕ
+viewNumber message buffer i =
+    cond (ltb longest (length message)) too-long
+    (cond (ltb (length buffer) (tailSize (length message))) wrong-size
+    (cond (same (take (tailSize (length message)) buffer) (tailOf message))
+    (cond (ltb i (blockCount (length message))) accepted no-such-block)
+    other-tail))
+
+-- "part of the message where it lies wholly inside it, else .. part of the tail buffer"
+unfoldable pub block : List ℕ → List ℕ → ℕ → List ℕ
+block message buffer i =
+    cond (ltb i (length message / 64)) (take 64 (drop (64 * i) message)) (take 64 (drop (64 * (i - length message / 64)) buffer))
+
+-- the part for block i: empty where the number is a refusal
+unfoldable pub viewPart : List ℕ → List ℕ → ℕ → List ℕ
+viewPart message buffer i = cond (eqb (viewNumber message buffer i) accepted) (block message buffer i) []

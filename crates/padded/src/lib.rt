@@ -1,0 +1,139 @@
+// Padded messages: the view of their blocks, and the remover.
+use padding::block_count;
+use padding::tail_answer;
+use refusal::ACCEPTED;
+use refusal::NO_BLOCK;
+use refusal::NOT_PADDED;
+use refusal::OTHER_TAIL;
+use units::Bits;
+use units::Bytes;
+
+mod bytes;
+
+ghost use mathlib.Core.Path.{_≡_};
+ghost use Prim.Native.Nat.{_+_, _≤_};
+ghost use lib.ListN.{length};
+ghost use Rattle.same.specs.Same.{same};
+ghost use Rattle.padding.specs.Padding.{longest};
+ghost use Rattle.padding.specs.Writing.{tailOf, tailSize};
+ghost use Rattle.padded.specs.Viewing.{viewNumber, viewPart};
+ghost use Rattle.padded.specs.Removing.{statedBits, rightFill, isPadded, removeNumber, removePart};
+
+// The bits that the last eight bytes state.
+fn stated_bits(bytes: &[u8]) -> u64
+    requires { ⌜ 8 ≤ length (now bytes) ⌝ }
+    ensures { λ r. ⌜ r ≡ statedBits (now (bytes .entry)) ⌝ }
+{
+    let from = bytes.len() - 8;
+    bytes::number(&bytes[from..])
+}
+
+// Whether byte m is 80 hex and all bytes between it and the last eight are zero.
+fn right_fill(bytes: &[u8], m: usize) -> bool
+    requires { ⌜ m + 9 ≤ length (now bytes) ⌝ }
+    ensures { λ r. ⌜ r ≡ rightFill m (now (bytes .entry)) ⌝ }
+{
+    if bytes[m] != 0x80 {
+        return false;
+    }
+    let from = m + 1;
+    let end = bytes.len() - 8;
+    bytes::all_zero(&bytes[from..end])
+}
+
+// Whether the tail is what the writer puts there. It is compared where it lies.
+fn holds_tail(message: &[u8], tail: &[u8]) -> bool
+    requires { ⌜ (length (now message) ≤ longest) × (length (now tail) ≡ tailSize (length (now message))) ⌝ }
+    ensures { λ r. ⌜ r ≡ same (now (tail .entry)) (tailOf (now (message .entry))) ⌝ }
+{
+    let m = message.len();
+    let kept = m % 64;
+    let whole = m / 64 * 64;
+    if !same::bytes(&tail[..kept], &message[whole..]) {
+        return false;
+    }
+    if !right_fill(tail, kept) {
+        return false;
+    }
+    stated_bits(tail) == (m as u64) * 8
+}
+
+// The number for block i of the padded message. A block inside the message still needs the right tail.
+pub fn view_number(message: &[u8], buffer: &[u8], i: usize) -> u8
+    ensures { λ r. ⌜ r ≡ viewNumber (now (message .entry)) (now (buffer .entry)) i ⌝ }
+{
+    let m = Bytes(message.len() as u64);
+    let answer = tail_answer(m, buffer.len());
+    if answer.no != ACCEPTED {
+        return answer.no;
+    }
+    let size = answer.count;
+    if !holds_tail(message, &buffer[..size]) {
+        return OTHER_TAIL;
+    }
+    if (i as u64) < block_count(m) {
+        ACCEPTED
+    } else {
+        NO_BLOCK
+    }
+}
+
+// Block i: a part of the message where it lies wholly inside it, else a part of the tail buffer. Nothing is copied.
+pub fn view_part<'a>(message: &'a [u8], buffer: &'a [u8], i: usize) -> &'a [u8]
+    ensures { λ r. ⌜ now r ≡ viewPart (now (message .entry)) (now (buffer .entry)) i ⌝ }
+{
+    if view_number(message, buffer, i) != ACCEPTED {
+        return &buffer[..0];
+    }
+    let whole = message.len() / 64;
+    if i < whole {
+        let from = 64 * i;
+        let to = from + 64;
+        return &message[from..to];
+    }
+    let from = 64 * (i - whole);
+    let to = from + 64;
+    &buffer[from..to]
+}
+
+// Whether the bytes are a padded message.
+fn is_padded(bytes: &[u8]) -> bool
+    ensures { λ r. ⌜ r ≡ isPadded (now (bytes .entry)) ⌝ }
+{
+    let n = bytes.len();
+    if n == 0 {
+        return false;
+    }
+    if n % 64 != 0 {
+        return false;
+    }
+    let stated = Bits(stated_bits(bytes)).bytes();
+    if !stated.exact {
+        return false;
+    }
+    if 64 * block_count(stated.bytes) != n as u64 {
+        return false;
+    }
+    right_fill(bytes, stated.bytes.0 as usize)
+}
+
+pub fn remove_number(bytes: &[u8]) -> u8
+    ensures { λ r. ⌜ r ≡ removeNumber (now (bytes .entry)) ⌝ }
+{
+    if is_padded(bytes) {
+        ACCEPTED
+    } else {
+        NOT_PADDED
+    }
+}
+
+// The message, as a part of what was lent.
+pub fn remove_part(bytes: &[u8]) -> &[u8]
+    ensures { λ r. ⌜ now r ≡ removePart (now (bytes .entry)) ⌝ }
+{
+    if !is_padded(bytes) {
+        return &bytes[..0];
+    }
+    let m = (stated_bits(bytes) / 8) as usize;
+    &bytes[..m]
+}

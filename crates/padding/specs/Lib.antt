@@ -1,0 +1,3 @@
+pub mod Padding
+pub mod Writing
+pub mod Promises

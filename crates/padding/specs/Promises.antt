@@ -1,0 +1,36 @@
+-- What the padding and its writer promise: document 01, "SM3, condensed", "Padded blocks" and "Refusal numbers".
+use Prim.Native.Nat.{ℕ, _+_, _*_, _/_, _%_, _<_, _≤_}
+use mathlib.Core.Path.{_≡_}
+use mathlib.Core.Logic.{_↔_, _⊎_}
+use mathlib.Core.List.{List, _++_}
+use lib.ListN.{length, take, drop}
+use Rattle.refusal.specs.Table.{accepted, too-long, wrong-size}
+use Rattle.padding.specs.Padding.{longest, zeros, padded, blockCount}
+use Rattle.padding.specs.Writing.{tailOf, tailSize, refusedBy, wrote, written, bufferAfter}
+
+pub record Promises : Type 0 where
+  -- "the fewest zero bytes that make the length 56 modulo 64"
+  pub zeros-make-56 : (m : ℕ) → (m + 1 + zeros m) % 64 ≡ 56
+  pub zeros-are-fewest : (m z : ℕ) → (m + 1 + z) % 64 ≡ 56 → zeros m ≤ z
+  -- "A padded message has floor((m+8)/64) + 1 blocks"
+  pub blocks : (message : List ℕ) → length (padded message) ≡ 64 * blockCount (length message)
+  -- "the first 64 or 128 bytes of the buffer"
+  pub size : (message : List ℕ) → length (tailOf message) ≡ tailSize (length message)
+  pub one-or-two : (m : ℕ) → (tailSize m ≡ 64) ⊎ (tailSize m ≡ 128)
+  -- the message's whole blocks followed by the writer's bytes are the padded message
+  pub writer :
+      (message buffer : List ℕ) →
+      written message buffer .no ≡ accepted →
+      take (length message / 64 * 64) message ++ take (written message buffer .count) (bufferAfter message buffer) ≡ padded message
+  -- "Later bytes keep their content"
+  pub later-kept : (message buffer : List ℕ) → drop (tailSize (length message)) (bufferAfter message buffer) ≡ drop (tailSize (length message)) buffer
+  -- 10, 11 and 0, each exactly when
+  pub ten : (message buffer : List ℕ) → (written message buffer ≡ refusedBy too-long) ↔ (longest < length message)
+  pub eleven :
+      (message buffer : List ℕ) →
+      (written message buffer ≡ refusedBy wrong-size) ↔ ((length message ≤ longest) × (length buffer < tailSize (length message)))
+  pub zero :
+      (message buffer : List ℕ) →
+      (written message buffer ≡ wrote (tailSize (length message))) ↔ ((length message ≤ longest) × (tailSize (length message) ≤ length buffer))
+  -- "buffers same" where the call is refused
+  pub refused-leaves : (message buffer : List ℕ) → (written message buffer .no ≡ accepted → ⊥) → bufferAfter message buffer ≡ buffer

@@ -1,0 +1,84 @@
+// Padding: its block count and the writer.
+use refusal::ACCEPTED;
+use refusal::SIZE;
+use refusal::TOO_LONG;
+use units::Bytes;
+
+mod bytes;
+
+ghost use mathlib.Core.Path.{_≡_};
+ghost use lib.ListN.{length};
+ghost use Rattle.padding.specs.Padding.{blockCount};
+ghost use Rattle.padding.specs.Writing.{tailSize, tailAnswer, tailAfter, written, bufferAfter};
+
+// What the padding writer answers: its number, and 64 or 128, the bytes that it wrote (0 where it refuses).
+pub struct Written {
+    pub no: u8,
+    pub count: usize,
+}
+
+// The blocks of a padded message of m bytes. No sum here can overflow, as m + 8 could.
+pub fn block_count(m: Bytes) -> u64
+    ensures { λ r. ⌜ r ≡ blockCount (m .0) ⌝ }
+{
+    let m = m.0;
+    m / 64 + (m % 64 + 8) / 64 + 1
+}
+
+// One block holds up to 55 bytes, the 80 byte and the length.
+fn tail_size(m: Bytes) -> usize
+    ensures { λ r. ⌜ r ≡ tailSize (m .0) ⌝ }
+{
+    if m.0 % 64 < 56 { 64 } else { 128 }
+}
+
+// What the writing of a tail answers, for a message of m bytes and a buffer of so many. Nothing is written.
+pub fn tail_answer(m: Bytes, room: usize) -> Written
+    ensures { λ r. ⌜ r ≡ tailAnswer (m .0) room ⌝ }
+{
+    let length = m.bits();
+    if !length.exact {
+        return Written {
+            no: TOO_LONG,
+            count: 0,
+        };
+    }
+    let count = tail_size(m);
+    if room < count {
+        return Written { no: SIZE, count: 0 };
+    }
+    Written {
+        no: ACCEPTED,
+        count,
+    }
+}
+
+// Writes the padding of m bytes behind the m mod 64 bytes that stand at the front of the buffer.
+pub fn pad(buffer: &mut [u8], m: Bytes) -> Written
+    ensures { λ r. ⌜ r ≡ tailAnswer (m .0) (length (now (buffer .entry))) ⌝ }
+    ensures { λ _. ⌜ now (buffer .exit) ≡ tailAfter (m .0) (now (buffer .entry)) ⌝ }
+{
+    let answer = tail_answer(m, buffer.len());
+    if answer.no != ACCEPTED {
+        return answer;
+    }
+    let kept = (m.0 % 64) as usize;
+    let length = m.bits();
+    bytes::close(buffer, kept, answer.count - 8, length.bits.0);
+    answer
+}
+
+// Writes the last m mod 64 bytes of the message and the padding. At most 63 bytes are copied.
+pub fn write(message: &[u8], buffer: &mut [u8]) -> Written
+    ensures { λ r. ⌜ r ≡ written (now (message .entry)) (now (buffer .entry)) ⌝ }
+    ensures { λ _. ⌜ now (buffer .exit) ≡ bufferAfter (now (message .entry)) (now (buffer .entry)) ⌝ }
+{
+    let m = Bytes(message.len() as u64);
+    let foreseen = tail_answer(m, buffer.len());
+    if foreseen.no != ACCEPTED {
+        return foreseen;
+    }
+    let whole = message.len() / 64 * 64;
+    bytes::copy(&message[whole..], buffer);
+    pad(buffer, m)
+}
