@@ -1,0 +1,15 @@
+-- `matches` holds what `finish` answers against what is expected. Assumes nothing.
+use denote.Ref.{now}
+use mathlib.Core.Path.{ap, _∙_}
+use Rattle.hash.specs.Digests.{compared, compareState}
+use Rattle.hash.specs.declared.Digest.{Digest}
+use borrow.Author.Needs.{needs}
+use Rattle.hash.proofs.Hash.matches.Statement.{statement}
+use Rattle.hash.proofs.Hash.matches.Tie as tie
+
+returns : tie.Need-returns
+unfolding compareState
+returns c = c .against .ensures ∙ ap (λ (d : Digest). compared d (now (c .before .before .before .args .expected))) (c .before .finish .ensures)
+
+pub matches-spec : {M : Type 1} → statement M
+matches-spec = tie.close (tie.spec (λ c κs. search needs) (λ c κs. search needs) returns)

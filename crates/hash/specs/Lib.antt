@@ -1,0 +1,6 @@
+pub mod Sm3
+pub mod State
+pub mod Update
+pub mod Cutting
+pub mod Digests
+pub mod Promises

@@ -1,0 +1,34 @@
+-- "The hash state": document 01.
+use Prim.Native.Nat.{ℕ, _-_, _%_}
+use mathlib.Core.List.{List, [], _∷_, _++_}
+use mathlib.Core.Bool.{Bool, _&&_}
+use lib.Dec.{leb, eqb}
+use lib.ListN.{length, take, drop, replicate}
+use Rattle.same.specs.Same.{same}
+use Rattle.sm3.specs.declared.Words.{Words}
+use Rattle.sm3.specs.Standard.{IV}
+use Rattle.padding.specs.Padding.{longest}
+use Rattle.hash.specs.declared.Hash.{Hash}
+
+-- "The fresh start": the start value, nothing taken, no tail
+unfoldable pub fresh : Hash
+fresh = record { words = IV; total = 0; tail = replicate 64 0 }
+
+-- whether a state is the fresh one
+unfoldable pub inList : Words → List ℕ
+inList v = v .a ∷ v .b ∷ v .c ∷ v .d ∷ v .e ∷ v .f ∷ v .g ∷ v .h ∷ []
+
+unfoldable pub isFresh : Hash → Bool
+isFresh h = same (inList (h .words)) (inList IV) && eqb (h .total) 0 && same (h .tail) (replicate 64 0)
+
+-- "the remaining total mod 64 bytes at the front of the tail"
+unfoldable pub kept : Hash → List ℕ
+kept h = take (h .total % 64) (h .tail)
+
+-- "A state is in order when total is at most 2^61 - 1 and those trailing bytes are zero"
+unfoldable pub inOrder : Hash → Bool
+inOrder h = leb (h .total) longest && same (drop (h .total % 64) (h .tail)) (replicate (64 - h .total % 64) 0)
+
+-- bytes at the front of a tail, "tail bytes after those are zero"
+unfoldable pub asTail : List ℕ → List ℕ
+asTail bytes = bytes ++ replicate (64 - length bytes) 0

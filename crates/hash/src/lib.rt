@@ -1,0 +1,255 @@
+// The hash state: what is known of a message of which a part has come.
+use refusal::ACCEPTED;
+use refusal::SIZE;
+use refusal::STATE;
+use refusal::TOO_LONG;
+use sm3::Words;
+use units::Bytes;
+
+mod tail;
+
+use tail::put;
+use tail::tail_of;
+ghost use mathlib.Core.Path.{_≡_};
+ghost use mathlib.Core.Bool.{true};
+ghost use Prim.Native.Nat.{_+_, _≤_};
+ghost use lib.ListN.{length};
+ghost use Rattle.hash.specs.State.{fresh, inList, isFresh, inOrder, asTail};
+ghost use Rattle.refusal.specs.Table.{accepted};
+ghost use Rattle.sm3.specs.Standard.{folded, rest, hashValue};
+ghost use Rattle.padding.specs.Padding.{longest};
+ghost use Rattle.same.specs.Same.{same};
+ghost use Rattle.hash.specs.Update.{taken, update};
+ghost use Rattle.hash.specs.Digests.{noDigest, finish, digest, compared, compareMessage, compareState};
+
+// "Eight words, a total of bytes taken, and 64 tail bytes."
+#[repr(C)]
+pub struct Hash {
+    pub words: Words,
+    pub total: u64,
+    pub tail: [u8; 64],
+}
+
+// What update answers.
+#[repr(C)]
+pub struct Updated {
+    pub no: u8,
+    pub state: Hash,
+}
+
+// What finish and the one call answer.
+#[repr(C)]
+pub struct Digest {
+    pub no: u8,
+    pub bytes: [u8; 32],
+}
+
+// What a comparison answers.
+#[repr(C)]
+pub struct Compared {
+    pub no: u8,
+    pub same: bool,
+}
+
+// The most bytes that a message has: 2^61 - 1, so that its length in bits fits eight bytes.
+const LONGEST: u64 = 0x1fff_ffff_ffff_ffff;
+
+impl Hash {
+    // "The fresh start and the block size of 64 belong to the state."
+    pub const START: Words = Words {
+        a: 0x7380166f,
+        b: 0x4914b2b9,
+        c: 0x172442d7,
+        d: 0xda8a0600,
+        e: 0xa96f30bc,
+        f: 0x163138aa,
+        g: 0xe38dee4d,
+        h: 0xb0fb0e4e,
+    };
+
+    pub const BLOCK: usize = 64;
+
+    pub fn fresh() -> Hash
+        ensures { λ r. ⌜ r ≡ fresh ⌝ }
+    {
+        Hash {
+            words: Hash::START,
+            total: 0,
+            tail: [0; Hash::BLOCK],
+        }
+    }
+
+    // Whether nothing has been taken: a decided note's state has to be this one.
+    pub fn is_fresh(self) -> bool
+        ensures { λ r. ⌜ r ≡ isFresh self ⌝ }
+    {
+        let tail = self.tail;
+        let zeros = [0u8; Hash::BLOCK];
+        same_words(self.words, Hash::START) & (self.total == 0) & same::bytes(&tail, &zeros)
+    }
+
+    // The trailing bytes are held against zeros, all of them whatever is found.
+    pub fn in_order(self) -> bool
+        ensures { λ r. ⌜ r ≡ inOrder self ⌝ }
+    {
+        let total = self.total;
+        if LONGEST < total {
+            return false;
+        }
+        let kept = (total % 64) as usize;
+        let tail = self.tail;
+        let zeros = [0u8; Hash::BLOCK];
+        same::bytes(&tail[kept..], &zeros[kept..])
+    }
+
+    // Refusals 9 and 10. What room is left is compared with the piece: their sum could pass 2^64.
+    pub fn update(self, piece: &[u8]) -> Updated
+        ensures { λ r. ⌜ r ≡ update self (now (piece .entry)) ⌝ }
+    {
+        if !self.in_order() {
+            return Updated {
+                no: STATE,
+                state: self,
+            };
+        }
+        if LONGEST - self.total < piece.len() as u64 {
+            return Updated {
+                no: TOO_LONG,
+                state: self,
+            };
+        }
+        Updated {
+            no: ACCEPTED,
+            state: self.taken(piece),
+        }
+    }
+
+    // At most 63 bytes of the piece fill the tail up to a block, at most 63 are left over in the end: no others are copied.
+    fn taken(self, piece: &[u8]) -> Hash
+        requires { ⌜ (inOrder self ≡ true) × (self .total + length (now piece) ≤ longest) ⌝ }
+        ensures { λ r. ⌜ r ≡ taken self (now (piece .entry)) ⌝ }
+    {
+        let words = self.words;
+        let total = self.total + piece.len() as u64;
+        let kept = (self.total % 64) as usize;
+        if kept == 0 {
+            return kept_of(words, total, piece);
+        }
+        let mut tail = self.tail;
+        let room = Hash::BLOCK - kept;
+        if piece.len() < room {
+            put(&mut tail, kept, piece);
+            return Hash { words, total, tail };
+        }
+        put(&mut tail, kept, &piece[..room]);
+        let full = sm3::fold(words, &tail);
+        kept_of(full, total, &piece[room..])
+    }
+
+    // Refusal 9. The state is as it was: it came by value.
+    pub fn finish(self) -> Digest
+        ensures { λ r. ⌜ r ≡ finish self ⌝ }
+    {
+        if !self.in_order() {
+            return no_digest(STATE);
+        }
+        let tail = self.tail;
+        let mut last = [0u8; 2 * Hash::BLOCK];
+        put(&mut last, 0, &tail);
+        let written = padding::pad(&mut last, Bytes(self.total));
+        let count = written.count;
+        ended(self.words, &last[..count])
+    }
+
+    // Final, held against an expected digest: refusals 9 and 11.
+    pub fn matches(self, expected: &[u8]) -> Compared
+        ensures { λ r. ⌜ r ≡ compareState self (now (expected .entry)) ⌝ }
+    {
+        against(self.finish(), expected)
+    }
+}
+
+// A state that has taken the whole blocks of these bytes, read where they lie, and keeps what remains.
+fn kept_of(words: Words, total: u64, bytes: &[u8]) -> Hash
+    ensures { λ r. ⌜ r ≡ record { words = folded words (now (bytes .entry)); total = total; tail = asTail (rest (now (bytes .entry))) } ⌝ }
+{
+    let whole = bytes.len() / Hash::BLOCK * Hash::BLOCK;
+    Hash {
+        words: sm3::fold(words, bytes),
+        total,
+        tail: tail_of(&bytes[whole..]),
+    }
+}
+
+// Eight words compared one by one.
+fn same_words(v: Words, w: Words) -> bool
+    ensures { λ r. ⌜ r ≡ same (inList v) (inList w) ⌝ }
+{
+    (v.a == w.a)
+        & (v.b == w.b)
+        & (v.c == w.c)
+        & (v.d == w.d)
+        & (v.e == w.e)
+        & (v.f == w.f)
+        & (v.g == w.g)
+        & (v.h == w.h)
+}
+
+// One call for a whole message: refusal 10. Its whole blocks are folded where they lie.
+pub fn digest_of(message: &[u8]) -> Digest
+    ensures { λ r. ⌜ r ≡ digest (now (message .entry)) ⌝ }
+{
+    let mut last = [0u8; 2 * Hash::BLOCK];
+    let written = padding::write(message, &mut last);
+    let no = written.no;
+    if no != ACCEPTED {
+        return no_digest(no);
+    }
+    let count = written.count;
+    ended(sm3::fold(Hash::START, message), &last[..count])
+}
+
+// The one call, held against an expected digest: refusals 10 and 11.
+pub fn matches(message: &[u8], expected: &[u8]) -> Compared
+    ensures { λ r. ⌜ r ≡ compareMessage (now (message .entry)) (now (expected .entry)) ⌝ }
+{
+    against(digest_of(message), expected)
+}
+
+// The digest once the last bytes, the padding with them, are folded.
+fn ended(words: Words, last: &[u8]) -> Digest
+    ensures { λ r. ⌜ r ≡ record { no = accepted; bytes = hashValue (folded words (now (last .entry))) } ⌝ }
+{
+    Digest {
+        no: ACCEPTED,
+        bytes: sm3::hash_value(sm3::fold(words, last)),
+    }
+}
+
+// A refused digest.
+fn no_digest(no: u8) -> Digest
+    ensures { λ r. ⌜ r ≡ noDigest no ⌝ }
+{
+    Digest { no, bytes: [0; 32] }
+}
+
+// A digest held against an expected one.
+fn against(d: Digest, expected: &[u8]) -> Compared
+    ensures { λ r. ⌜ r ≡ compared d (now (expected .entry)) ⌝ }
+{
+    let no = d.no;
+    if no != ACCEPTED {
+        return Compared { no, same: false };
+    }
+    if expected.len() != 32 {
+        return Compared {
+            no: SIZE,
+            same: false,
+        };
+    }
+    let bytes = d.bytes;
+    Compared {
+        no: ACCEPTED,
+        same: same::bytes(&bytes, expected),
+    }
+}
