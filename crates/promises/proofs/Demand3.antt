@@ -1,0 +1,144 @@
+-- Demand 3, from the slot that a note's accepted bytes reach.
+use mathlib.Core.Path.{_≡_, refl, sym, ap, _∙_}
+use mathlib.Core.Logic.{_↔_, _⊎_, inl, inr}
+use mathlib.Core.List.{List, [], _∷_, _++_, append-nil}
+use mathlib.Core.Bool.{Bool, true, false, cond}
+use Prim.Native.Nat.{ℕ, _+_, _≤_, _<_}
+use native.Mathlib.Omega.{arith}
+use lib.Dec.{leb}
+use lib.ListN.{length, length-append}
+use borrow.Author.Tests.{leb-true, leb-false}
+use Rattle.refusal.specs.Table.{accepted, unlisted, decided, past-length}
+use Rattle.same.specs.Same.{same}
+use Rattle.same.proofs.Same.{same-equal, equal-same, differ-same, same-differ}
+use Rattle.hash.specs.Sm3.{sm3}
+use Rattle.session.specs.Slots.{absent, waiting, opened, shut, emptySlot, waitingSlot}
+use Rattle.session.specs.Deliver.{asItStands, deliverTo, slotOf, deliver, ask}
+use Rattle.session.specs.Places.{atPlace}
+use Rattle.session.proofs.Places.{at-listed, ask-at-listed}
+use Rattle.session.specs.declared.Record.{Record}
+use Rattle.session.specs.declared.Slot.{Slot}
+use Rattle.session.specs.declared.Answer.{Answer}
+use Rattle.session.specs.declared.Session.{Session}
+use Rattle.promises.specs.Deliveries.{Delivery, after, acceptedBytes}
+use Rattle.promises.specs.Demand3.{LineRecord, Loaded, Lists, verdict, Promised, Demand3}
+use Rattle.promises.proofs.OneNote.{view, slotOf-view, asks, own, unchanged, parts}
+use Rattle.promises.proofs.Reached.{reached, reached-nothing, takes, runs-past, after-decided, stands-waiting, stands-decided, asked}
+use Rattle.promises.proofs.Accepted.{Reaches, is-listed-reached, grows}
+use Rattle.promises.proofs.Unlisted.{unlisted-stays}
+
+-- the verdict's two sides
+is-opened : (t : Bool) → cond t opened shut ≡ opened → t ≡ true
+is-opened true e = refl
+is-opened false e = absurd (omega arith)
+
+is-shut : (t : Bool) → cond t opened shut ≡ shut → t ≡ false
+is-shut true e = absurd (omega arith)
+is-shut false e = refl
+
+module _ (r : Record) (b : List ℕ) where
+  opens-by : (verdict r b ≡ opened) ↔ (sm3 b ≡ r .digest)
+  unfolding verdict
+  opens-by = (λ e. same-equal _ _ (is-opened (same (sm3 b) (r .digest)) e), λ e. rw (equal-same (sm3 b) (r .digest) e))
+
+  shuts-by : (verdict r b ≡ shut) ↔ (sm3 b ≡ r .digest → ⊥)
+  unfolding verdict
+  shuts-by = (λ e. same-differ _ _ (is-shut (same (sm3 b) (r .digest)) e), λ f. rw (differ-same (sm3 b) (r .digest) f))
+
+module _ (r : Record) (line : LineRecord r) (note : ℕ) (low : 1 ≤ note) (high : note ≤ 32) where
+  module _ (s : Session) (b : List ℕ) (h : Reaches r b (view s note)) where
+    asked-is : ask s note ≡ asItStands accepted (reached r b)
+    asked-is = asks s note ∙ rw (h .0) (ask-at-listed (reached r b) note (is-listed-reached r line note low high b) ∙ asked r line b)
+
+    module _ (p : List ℕ) where
+      here : atPlace (view s note) note (λ slot. deliverTo slot p) ≡ deliverTo (reached r b) p
+      here = rw (h .0) (at-listed (reached r b) note (λ slot. deliverTo slot p) (is-listed-reached r line note low high b))
+
+      answered : deliver s note p .answer ≡ deliverTo (reached r b) p .answer
+      unfolding deliver
+      answered = own s note (λ slot. deliverTo slot p) .0 ∙ rw here
+
+      moved : view (deliver s note p .session) note ≡ deliverTo (reached r b) p .slot
+      unfolding deliver
+      moved = own s note (λ slot. deliverTo slot p) .1 ∙ rw here
+
+      -- a slot that stays leaves the session the same
+      refused : (number : ℕ) → deliverTo (reached r b) p ≡ record { answer = asItStands number (reached r b); slot = reached r b }
+          → deliver s note p ≡ record { answer = asItStands number (reached r b); session = s }
+      unfolding deliver
+      refused number e = parts (answered ∙ rw e) (unchanged s note (λ slot. deliverTo slot p) (rw (here, e) (sym (h .0))))
+
+    -- nothing more is accepted for a decided note
+    still : length b ≡ r .length → (later : List Delivery) → Reaches r b (view (after s later) note)
+    still e later = go (acceptedBytes note s later) (grows r line note low high s b later h)
+      where
+        go : (c : List ℕ) → Reaches r (b ++ c) (view (after s later) note) → Reaches r b (view (after s later) note)
+        go [] g = rw append-nil at g
+        go (x ∷ c) g = absurd (omega (arith, g .1, length-append b (x ∷ c)))
+
+  module _ (s : Session) (b : List ℕ) (h : Reaches r b (view s note)) where
+    asks-decided : length b ≡ r .length → ask s note ≡ record { no = accepted; status = verdict r b; taken = length b }
+    asks-decided e = asked-is s b h ∙ stands-decided r line b accepted (omega arith) ∙ rw e
+
+    fits-in : length b < r .length → (p : List ℕ) → deliver s note p .answer .no ≡ accepted → length b + length p ≤ r .length
+    unfolding asItStands
+    fits-in w p a = go (leb (length b + length p) (r .length)) refl
+      where
+        go : (t : Bool) → leb (length b + length p) (r .length) ≡ t → length b + length p ≤ r .length
+        go true f = leb-true _ _ f
+        go false f =
+            let refused-8 : deliver s note p .answer .no ≡ past-length = rw (answered s b h p, runs-past r line b p w (leb-false _ _ f)) in
+            absurd (omega arith)
+
+    accepted-answer : length b < r .length → (p : List ℕ) → length b + length p ≤ r .length → deliver s note p .answer ≡ asItStands accepted (reached r (b ++ p))
+    accepted-answer w p l = answered s b h p ∙ rw (takes r line b p w l)
+
+    accepted-slot : length b < r .length → (p : List ℕ) → length b + length p ≤ r .length → Reaches r (b ++ p) (view (deliver s note p .session) note)
+    accepted-slot w p l = (moved s b h p ∙ rw (takes r line b p w l), rw (length-append b p) l)
+
+    promised : Promised s note r b
+    unfolding asItStands
+    promised =
+        record {
+          within = h .1;
+          waits = λ w. asked-is s b h ∙ stands-waiting r line b accepted w;
+          accepts = λ w p. (fits-in w p, λ l. ap (λ (x : Answer). x .no) (accepted-answer w p l));
+          answers = λ w p l. accepted-answer w p l ∙ sym (asked-is (deliver s note p .session) (b ++ p) (accepted-slot w p l));
+          refuses = λ w p l. refused s b h p past-length (runs-past r line b p w l) ∙ rw (stands-waiting r line b past-length w);
+          decides = asks-decided;
+          opens = λ e. rw (asks-decided e) (opens-by r b);
+          shuts = λ e. rw (asks-decided e) (shuts-by r b);
+          stays = λ e later. asked-is (after s later) b (still s b h e later) ∙ sym (asked-is s b h);
+          closed =
+              λ e later p.
+              refused (after s later) b (still s b h e later) p decided (after-decided r line b p (omega arith))
+              ∙ rw (stands-decided r line b decided (omega arith), e);
+        }
+
+-- in an accepted sheet's session a listed note's record is a line's, and nothing was accepted for it
+module _ (s : Session) (note : ℕ) (r : Record) (lists : Lists s note r) where
+  line-record : Loaded s → LineRecord r
+  unfolding emptySlot waitingSlot
+  line-record loaded = go (loaded note (lists .first) (lists .last))
+    where
+      go : (slotOf s note ≡ emptySlot) ⊎ ((r′ : Record) × LineRecord r′ × (slotOf s note ≡ waitingSlot r′)) → LineRecord r
+      go (inl e) =
+          let clash : _≡_ {A = ℕ} waiting absent = ap (λ (x : Slot). x .status) (sym (lists .slot) ∙ e) in
+          absurd (omega arith)
+      go (inr l) =
+          let equal : r ≡ l .0 = ap (λ (x : Slot). x .line) (sym (lists .slot) ∙ l .2) in
+          rw equal (l .1)
+
+  at-start : LineRecord r → Reaches r [] (view s note)
+  at-start line = (sym (slotOf-view s note (lists .first)) ∙ lists .slot ∙ sym (reached-nothing r line), omega arith)
+
+pub demand3 : Demand3
+demand3 =
+    record {
+      listed =
+          λ s loaded note r lists ds.
+          let line = line-record s note r lists loaded in
+          promised r line note (lists .first) (lists .last) (after s ds) (acceptedBytes note s ds)
+          (grows r line note (lists .first) (lists .last) s [] ds (at-start s note r lists line));
+      unlisted = unlisted-stays;
+    }

@@ -1,0 +1,28 @@
+-- The examples that document 01 marks P hold. Each is worked out by the definitions.
+use Prim.{tt}
+use mathlib.Core.Path.{_≡_, refl}
+use mathlib.Core.List.{List, [], _∷_}
+use mathlib.Core.Bool.{Bool, true, _&&_}
+use lib.Dec.{eqb}
+use borrow.Author.Tests.{eqb-true}
+use Rattle.same.proofs.Tests.{first, second}
+use Rattle.word.specs.Rotation.{_⊞_, _<<<_}
+use Rattle.word.specs.BigEndian.{bigEndian, numberFrom, numberOf}
+use Rattle.sm3.specs.Standard.{T, FF, GG, P0, P1, split, nextWord, extended, expansion, W′, roundOn, round, rounds}
+use Rattle.padding.specs.Padding.{zeros, padding, padded, blockCount}
+use Rattle.session.specs.Rules.{loopRule}
+use Rattle.promises.specs.Examples.{Example, abc, abcRound0, loopNumber, examples, Hold}
+
+-- whether every number found is the one printed
+agree : List Example → Bool
+agree [] = true
+agree (e ∷ es) = eqb (e .found) (e .printed) && agree es
+
+hold : (es : List Example) → agree es ≡ true → Hold es
+unfolding Hold agree
+hold [] h = tt
+hold (e ∷ es) h = (eqb-true _ _ (first (eqb (e .found) (e .printed)) (agree es) h), hold es (second (eqb (e .found) (e .printed)) (agree es) h))
+
+pub examples-hold : Hold examples
+unfolding agree _⊞_ _<<<_ bigEndian numberFrom numberOf T FF GG P0 P1 split nextWord extended expansion W′ roundOn round rounds zeros padding padded blockCount loopRule abc abcRound0 loopNumber
+examples-hold = hold examples refl

@@ -1,0 +1,9 @@
+pub mod Examples
+pub mod OneNote
+pub mod Reordering
+pub mod Reached
+pub mod Accepted
+pub mod Unlisted
+pub mod Demand3
+pub mod Loaded
+pub mod Kept

@@ -1,0 +1,74 @@
+-- Demand 3: "From an accepted sheet, after any sequence of deliveries, a listed note waits while the bytes accepted for it are fewer than its length,
+-- and a waiting note's piece is accepted exactly when it doesn't run past that length; there the note is open if the accepted bytes' SM3 digest is the
+-- sheet's and shut if not, and it stays so." (Its last sentence is specs/Reordering.antt.)
+use mathlib.Core.Path.{_≡_}
+use mathlib.Core.Logic.{_↔_, _⊎_}
+use mathlib.Core.List.{List}
+use mathlib.Core.Bool.{true, cond}
+use Prim.Native.Nat.{ℕ, _+_, _≤_, _<_}
+use lib.ListN.{length}
+use Rattle.refusal.specs.Table.{accepted, unlisted, decided, past-length}
+use Rattle.same.specs.Same.{same}
+use Rattle.hash.specs.Sm3.{sm3}
+use Rattle.session.specs.Rules.{obeys}
+use Rattle.session.specs.Slots.{waiting, opened, shut, emptySlot, waitingSlot}
+use Rattle.session.specs.Deliver.{nothing, slotOf, deliver, ask}
+use Rattle.session.specs.Promises.{Unlisted}
+use Rattle.session.specs.declared.Record.{Record}
+use Rattle.session.specs.declared.Session.{Session}
+use Rattle.promises.specs.Deliveries.{Delivery, after, acceptedBytes}
+
+-- what a sheet's line says of a note: it "obeys rules 3 and 4", and its digest has 32 bytes
+pub record LineRecord (r : Record) : Type 0 where
+  pub rules : obeys r ≡ true
+  pub digest : length (r .digest) ≡ 32
+
+-- "An accepted sheet's session lists exactly the notes of its lines, each waiting, with its own line's record and a fresh state"; the other slots are empty
+abbrev pub Loaded : Session → Type 0
+Loaded s =
+    (note : ℕ) → 1 ≤ note → note ≤ 32 → (slotOf s note ≡ emptySlot) ⊎ ((r : Record) × LineRecord r × (slotOf s note ≡ waitingSlot r))
+
+-- a note that such a session lists, and its record
+pub record Lists (s : Session) (note : ℕ) (r : Record) : Type 0 where
+  pub first : 1 ≤ note
+  pub last : note ≤ 32
+  pub slot : slotOf s note ≡ waitingSlot r
+
+-- "open if the accepted bytes' SM3 digest is the sheet's and shut if not"
+unfoldable pub verdict : Record → List ℕ → ℕ
+verdict r bytes = cond (same (sm3 bytes) (r .digest)) opened shut
+
+-- what is promised of a listed note with record r in the session s, `bytes` being the bytes accepted for it
+pub record Promised (s : Session) (note : ℕ) (r : Record) (bytes : List ℕ) : Type 0 where
+  -- "Bytes past the length are never part of a sample"
+  pub within : length bytes ≤ r .length
+  -- "a listed note waits while the bytes accepted for it are fewer than its length"
+  pub waits : length bytes < r .length → ask s note ≡ record { no = accepted; status = waiting; taken = length bytes }
+  -- "and a waiting note's piece is accepted exactly when it doesn't run past that length";
+  pub accepts : length bytes < r .length → (piece : List ℕ) → (deliver s note piece .answer .no ≡ accepted) ↔ (length bytes + length piece ≤ r .length)
+  -- its answer is then what asking gives; a piece that does run past is refused (8), "as they stood; nothing of the piece taken"
+  pub answers : length bytes < r .length → (piece : List ℕ) → length bytes + length piece ≤ r .length
+      → deliver s note piece .answer ≡ ask (deliver s note piece .session) note
+  pub refuses : length bytes < r .length → (piece : List ℕ) → r .length < length bytes + length piece
+      → deliver s note piece ≡ record { answer = record { no = past-length; status = waiting; taken = length bytes }; session = s }
+  -- "there the note is open if the accepted bytes' SM3 digest is the sheet's and shut if not"
+  pub decides : length bytes ≡ r .length → ask s note ≡ record { no = accepted; status = verdict r bytes; taken = length bytes }
+  pub opens : length bytes ≡ r .length → (ask s note .status ≡ opened) ↔ (sm3 bytes ≡ r .digest)
+  pub shuts : length bytes ≡ r .length → (ask s note .status ≡ shut) ↔ (sm3 bytes ≡ r .digest → ⊥)
+  -- "and it stays so": whatever is delivered later; its own deliveries are refused (7), the empty piece too
+  pub stays : length bytes ≡ r .length → (later : List Delivery) → ask (after s later) note ≡ ask s note
+  pub closed : length bytes ≡ r .length → (later : List Delivery) (piece : List ℕ)
+      → deliver (after s later) note piece
+      ≡ record { answer = record { no = decided; status = verdict r bytes; taken = length bytes }; session = after s later }
+
+-- of a note that is not listed: it never is, and every delivery to it is refused (5)
+pub record NotListed (s : Session) (note : ℕ) : Type 0 where
+  pub asked : ask s note ≡ nothing unlisted
+  pub refused : (piece : List ℕ) → deliver s note piece ≡ record { answer = nothing unlisted; session = s }
+
+pub record Demand3 : Type 0 where
+  -- "From an accepted sheet, after any sequence of deliveries"
+  pub listed : (s : Session) → Loaded s → (note : ℕ) (r : Record) → Lists s note r → (ds : List Delivery)
+      → Promised (after s ds) note r (acceptedBytes note s ds)
+  -- and no note but those: from any session
+  pub unlisted : (s : Session) (note : ℕ) → Unlisted s note → (ds : List Delivery) → NotListed (after s ds) note

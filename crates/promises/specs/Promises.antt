@@ -1,0 +1,12 @@
+-- What this crate promises, all of it proved in proofs/Kept.antt.
+use Rattle.promises.specs.Examples.{Hold, examples}
+use Rattle.promises.specs.Demand3.{Demand3}
+use Rattle.promises.specs.Reordering.{Reordering}
+
+pub record Promises : Type 0 where
+  -- "Marked P are proved about the definitions, gathered in one list under a single theorem"
+  pub smallExamples : Hold examples
+  -- demand 3, all but its last sentence
+  pub demand3 : Demand3
+  -- its last sentence
+  pub reordering : Reordering

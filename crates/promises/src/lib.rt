@@ -1,0 +1,1 @@
+// The demands as theorems: statements in specs/, proofs in proofs/, and no code.

@@ -1,0 +1,56 @@
+-- A delivery to a listed slot, and asking one, case by case. Assumes nothing.
+use Prim.Native.Nat.{ℕ, _-_, _≤_, _<_}
+use mathlib.Core.Path.{_≡_}
+use mathlib.Core.List.{List}
+use mathlib.Core.Bool.{true, false}
+use borrow.Author.Tests.{eq-eqb, ne-eqb, le-leb, lt-leb, lt-ltb, le-ltb}
+use lib.ListN.{length}
+use Rattle.refusal.specs.Table.{accepted, slot-not-in-order, decided, past-length}
+use Rattle.hash.specs.Update.{update}
+use Rattle.hash.specs.declared.Updated.{Updated}
+use Rattle.session.specs.Slots.{waiting, slotInOrder, takenOf}
+use Rattle.session.specs.Deliver.{nothing, asItStands, judged, withPiece, deliverTo, askOf}
+use Rattle.session.specs.declared.Slot.{Slot}
+
+-- an answer as a slot stands
+pub stands : (number t : ℕ) (s : Slot) → t ≡ takenOf s → record { no = number; status = s .status; taken = t } ≡ asItStands number s
+unfolding asItStands
+stands number t s h = rw h
+
+module _ (s : Slot) (piece : List ℕ) where
+  pub not-in-order : slotInOrder s ≡ false → deliverTo s piece ≡ record { answer = nothing slot-not-in-order; slot = s }
+  unfolding deliverTo
+  not-in-order o = simp o
+
+  pub is-decided : slotInOrder s ≡ true → (s .status ≡ waiting → ⊥) → deliverTo s piece ≡ record { answer = asItStands decided s; slot = s }
+  unfolding deliverTo
+  is-decided o w = simp (o, ne-eqb (s .status) waiting w)
+
+  pub runs-past : slotInOrder s ≡ true → s .status ≡ waiting → s .line .length - s .state .total < length piece
+      → deliverTo s piece ≡ record { answer = asItStands past-length s; slot = s }
+  unfolding deliverTo
+  runs-past o w l = simp (o, eq-eqb (s .status) waiting w, lt-leb (length piece) (s .line .length - s .state .total) l)
+
+  pub is-taken : slotInOrder s ≡ true → s .status ≡ waiting → length piece ≤ s .line .length - s .state .total
+      → deliverTo s piece ≡ record { answer = asItStands accepted (withPiece s piece); slot = withPiece s piece }
+  unfolding deliverTo
+  is-taken o w l = simp (o, eq-eqb (s .status) waiting w, le-leb (length piece) (s .line .length - s .state .total) l)
+
+-- a piece that is taken, short of the length and up to it
+module _ (s : Slot) (piece : List ℕ) (u : Updated) (e : u ≡ update (s .state) piece) where
+  pub waits-on : u .state .total < s .line .length → withPiece s piece ≡ record { line = s .line; state = u .state; status = waiting }
+  unfolding withPiece
+  waits-on l = rw (← e) (simp (lt-ltb (u .state .total) (s .line .length) l))
+
+  pub is-judged : s .line .length ≤ u .state .total → withPiece s piece ≡ judged s (u .state)
+  unfolding withPiece
+  is-judged l = rw (← e) (simp (le-ltb (u .state .total) (s .line .length) l))
+
+module _ (s : Slot) where
+  pub asked : slotInOrder s ≡ true → askOf s ≡ asItStands accepted s
+  unfolding askOf
+  asked o = simp o
+
+  pub asked-not-in-order : slotInOrder s ≡ false → askOf s ≡ nothing slot-not-in-order
+  unfolding askOf
+  asked-not-in-order o = simp o

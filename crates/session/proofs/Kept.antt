@@ -1,0 +1,20 @@
+-- Every promise of the crate, kept. Assumes nothing.
+use Rattle.session.specs.Promises.{Promises}
+use Rattle.session.proofs.Rules.{length-rule-is, loop-rule-is}
+use Rattle.session.proofs.Slots.{slot-in-order-is}
+use Rattle.session.proofs.Rows.{by-table, ask-by-table, refused-leaves, empty-leaves, accepted-counts}
+use Rattle.session.proofs.Apart.{are-apart}
+
+pub kept : Promises
+kept =
+    record {
+      lengths = length-rule-is;
+      loops = loop-rule-is;
+      inOrder = slot-in-order-is;
+      table = by-table;
+      askTable = ask-by-table;
+      refused = refused-leaves;
+      emptyPiece = empty-leaves;
+      counted = accepted-counts;
+      apart = are-apart;
+    }

@@ -1,0 +1,10 @@
+pub mod Rules
+pub mod Slots
+pub mod Deliver
+pub mod Pieces
+pub mod Lists
+pub mod Places
+pub mod Listed
+pub mod Rows
+pub mod Apart
+pub mod Kept

@@ -1,0 +1,18 @@
+-- `place_of` is where a note's slot stands. Assumes nothing.
+use borrow.Author.Needs.{needs}
+use mathlib.Core.Path.{sym, _∙_}
+use Rattle.session.proofs.Places.{from-one, place-of-note, place-of-no-note}
+use Rattle.session.proofs.place_of.Statement.{statement}
+use Rattle.session.proofs.place_of.Tie as tie
+
+sub-result : tie.Need-sub-result
+sub-result c = from-one _ (sym (c .before .is-note .ensures) ∙ c .if1 .taken)
+
+returns : tie.Need-returns
+returns c = sym (place-of-note _ (sym (c .before .is-note .ensures) ∙ c .if1 .taken))
+
+returns-2 : tie.Need-returns-2
+returns-2 c = sym (place-of-no-note _ (sym (c .before .is-note .ensures) ∙ c .if1 .left))
+
+pub place-of-spec : {M : Type 1} → statement M
+place-of-spec = tie.close (tie.spec (λ c κs. search needs) sub-result returns returns-2)
