@@ -1,0 +1,19 @@
+use borrow.Author.Needs.{needs}
+use Rattle.vectors.proofs.lines.line.Statement.{statement}
+use Rattle.vectors.proofs.lines.line.Tie as tie
+
+pub line-spec : {M : Type 1} → statement M
+line-spec =
+    tie.close
+    (tie.spec
+    (λ c κs. search needs)
+    (λ c κs. search needs)
+    (λ c. search needs)
+    (λ c κs. search needs)
+    (λ c κs. search needs)
+    (λ c κs. search needs)
+    (λ c. search needs)
+    (λ c. search needs)
+    (λ c. search needs)
+    (λ c. search needs)
+    (λ c. search needs))
