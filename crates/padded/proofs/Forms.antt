@@ -1,5 +1,5 @@
 -- The remover accepts the padded forms of messages, and gives the message. Assumes nothing.
-use Prim.Native.Nat.{ℕ, suc, _+_, _*_, _-_, _/_, _%_, _^_, _<_, _≤_}
+use Prim.Native.Nat.{ℕ, _+_, _*_, _-_, _/_, _%_, _^_, _<_, _≤_}
 use mathlib.Core.Path.{_≡_, refl, sym, ap, _∙_}
 use mathlib.Core.Bool.{true, _&&_}
 use mathlib.Core.List.{List, [], _∷_, _++_, append-assoc}
@@ -7,15 +7,16 @@ use native.Mathlib.Nat.{mod-eq-of-lt, mod-lt}
 use native.Mathlib.Omega.{arith}
 use borrow.Author.Tests.{eq-eqb}
 use lib.Dec.{eqb}
-use lib.ListN.{length, take, drop, getD, replicate, length-append, length-drop, length-replicate}
-use lib.Seq.{take-at, drop-at, getD-at, take-all, length-take-le}
+use lib.ListN.{length, take, drop, replicate, length-append, length-drop, length-replicate}
+use lib.Seq.{take-at, drop-at, getD-at, length-take-le}
 use Rattle.same.specs.Same.{same}
 use Rattle.same.proofs.Tests.{both}
 use Rattle.same.proofs.Same.{same-equal, same-self}
 use Rattle.word.specs.BigEndian.{bigEndian, numberOf, AreBytes}
 use Rattle.word.proofs.BigEndian.{number-bytes, bytes-number, length-bigEndian}
 use Rattle.padding.specs.Padding.{longest, zeros, padding, padded, blockCount}
-use Rattle.padding.proofs.Tails.{fills, fills-blocks, padded-length, length-padding}
+use Rattle.padding.proofs.Tails.{fills, fills-blocks}
+use Rattle.padding.proofs.Wholes.{padded-length}
 use Rattle.padded.specs.Removing.{statedBits, rightFill, isPadded}
 use Rattle.padded.proofs.Parts.{by-parts, part-bytes, stated-is}
 use Rattle.padded.proofs.Removed.{known, is-padded, room}

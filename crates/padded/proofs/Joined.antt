@@ -1,16 +1,17 @@
 -- The viewed blocks are the padded message's. Assumes nothing.
-use Prim.Native.Nat.{ℕ, zero, suc, _+_, _*_, _-_, _/_, _%_, _<_, _≤_}
-use mathlib.Core.Path.{_≡_, refl, sym, ap, ap₂, _∙_}
-use mathlib.Core.List.{List, [], _++_}
+use Prim.Native.Nat.{ℕ, zero, suc, _+_, _*_, _-_, _/_, _<_, _≤_}
+use mathlib.Core.Path.{_≡_, refl, sym, ap, _∙_}
+use mathlib.Core.List.{List, _++_}
 use native.Mathlib.Decide.{decLt}
 use native.Mathlib.Omega.{arith}
-use lib.ListN.{length, take, drop, length-append, length-drop, take-append-drop}
+use lib.ListN.{length, take, drop, length-drop, take-append-drop}
 use lib.Seq.{take-append-le, drop-append-le, drop-append-add, take-add, take-all, length-take-le}
 use Rattle.refusal.specs.Table.{accepted}
 use Rattle.same.proofs.Same.{same-equal, equal-same}
 use Rattle.padding.specs.Padding.{padding, padded, blockCount}
 use Rattle.padding.specs.Writing.{tailOf, tailSize}
-use Rattle.padding.proofs.Tails.{padded-length, tail-length, whole-and-tail, fills-blocks}
+use Rattle.padding.proofs.Tails.{fills-blocks}
+use Rattle.padding.proofs.Wholes.{padded-length, tail-length, whole-and-tail}
 use Rattle.padded.specs.Viewing.{viewNumber, viewPart}
 use Rattle.padded.specs.Promises.{viewedBlocks, Tailed}
 use Rattle.padded.proofs.Viewed.{viewed, inside, in-tail, view-accepts}

@@ -1,15 +1,15 @@
 -- The crate's promises, kept. Assumes nothing.
 use Prim.Native.Nat.{ℕ, _/_, _<_, _≤_}
-use mathlib.Core.Path.{_≡_, refl, sym, ap, _∙_}
+use mathlib.Core.Path.{_≡_, refl, sym, _∙_}
 use mathlib.Core.Bool.{Bool, true, false}
-use mathlib.Core.List.{List, []}
+use mathlib.Core.List.{List}
 use borrow.Author.Tests.{eqb-false}
 use lib.ListN.{length, take}
-use Rattle.refusal.specs.Table.{accepted, too-long, wrong-size, other-tail, no-such-block, not-padded}
+use Rattle.refusal.specs.Table.{accepted, too-long, wrong-size, other-tail, no-such-block}
 use Rattle.same.specs.Same.{same}
 use Rattle.same.proofs.Same.{same-equal, equal-same, differ-same, same-differ}
 use Rattle.word.specs.BigEndian.{AreBytes}
-use Rattle.padding.specs.Padding.{longest, padded, blockCount}
+use Rattle.padding.specs.Padding.{longest, blockCount}
 use Rattle.padding.specs.Writing.{tailOf, tailSize}
 use Rattle.padded.specs.Viewing.{viewNumber}
 use Rattle.padded.specs.Removing.{statedBits, isPadded, removeNumber, removePart}

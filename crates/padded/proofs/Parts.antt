@@ -1,8 +1,8 @@
 -- Bytes taken apart as a padded message is put together: some bytes, one byte, z more and the last eight. Assumes nothing.
-use Prim.Native.Nat.{ℕ, suc, _+_, _*_, _-_, _%_, _^_, _<_, _≤_}
+use Prim.Native.Nat.{ℕ, suc, _+_, _-_, _^_, _<_, _≤_}
 use mathlib.Core.Path.{_≡_, refl, sym, ap, _∙_}
 use mathlib.Core.Bool.{Bool, true, false, _&&_}
-use mathlib.Core.List.{List, [], _∷_, _++_}
+use mathlib.Core.List.{List, _∷_, _++_}
 use native.Mathlib.Nat.{mod-eq-of-lt}
 use native.Mathlib.Numerals.{add-one}
 use native.Mathlib.Omega.{arith}
@@ -17,7 +17,7 @@ use Rattle.same.proofs.Tests.{agree}
 use Rattle.same.proofs.Same.{same-equal, equal-same, same-join}
 use Rattle.padded.specs.Removing.{statedBits, rightFill}
 use Rattle.word.specs.BigEndian.{bigEndian, numberOf, AreBytes}
-use Rattle.word.proofs.BigEndian.{number-bytes, bytes-number, length-bigEndian}
+use Rattle.word.proofs.BigEndian.{number-bytes, bytes-number}
 
 -- the parts of the first k + 1 + z + 8 bytes
 pub parted : (b : List ℕ) (k z : ℕ) → k < length b

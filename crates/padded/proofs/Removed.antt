@@ -1,13 +1,12 @@
 -- The remover: its tests one by one, and what is known where all hold. Assumes nothing.
-use Prim.Native.Nat.{ℕ, suc, _+_, _*_, _-_, _/_, _%_, _^_, _<_, _≤_}
-use mathlib.Core.Path.{_≡_, refl, sym, ap, _∙_}
-use mathlib.Core.Bool.{Bool, true, false, not, _&&_}
+use Prim.Native.Nat.{ℕ, _+_, _*_, _/_, _%_, _^_, _<_, _≤_}
+use mathlib.Core.Path.{_≡_, sym, ap, _∙_}
+use mathlib.Core.Bool.{true, false, not, _&&_}
 use mathlib.Core.List.{List, []}
 use native.Mathlib.Omega.{arith}
 use borrow.Author.Tests.{lt-ltb, le-ltb, eq-eqb, ne-eqb, eqb-true, ltb-true, not-true, not-false}
 use lib.Dec.{ltb, eqb}
 use lib.ListN.{length, take}
-use lib.Seq.{length-take-le}
 use Rattle.refusal.specs.Table.{accepted, not-padded}
 use Rattle.same.proofs.Tests.{first, second}
 use Rattle.units.specs.declared.InBytes.{InBytes}
@@ -123,3 +122,9 @@ module _ (b : List ℕ) where
   pub room : isPadded b ≡ true → (8 ≤ length b) × (statedBits b / 8 ≤ length b)
   unfolding blockCount
   room h = let is = known h in (omega arith, omega arith)
+
+  -- the stated bytes, as the unit's conversion gives them
+  pub stated-bytes : isPadded b ≡ true → (x : ℕ) → x ≡ statedBits b → (r : InBytes) → r ≡ bytesOfBits (record { 0 = x }) → r .bytes .0 ≡ statedBits b / 8
+  stated-bytes h x stated r is =
+      let even = known h .bytes in
+      ap (λ a. a .bytes .0) (is ∙ bytes-are (record { 0 = x }) (ap (λ n. n % 8) stated ∙ even)) ∙ ap (λ n. n / 8) stated

@@ -1,9 +1,8 @@
 -- The block view: when it answers which number, and where its parts lie. Assumes nothing.
-use Prim.Native.Nat.{ℕ, suc, _+_, _*_, _-_, _/_, _%_, _^_, _<_, _≤_}
+use Prim.Native.Nat.{ℕ, _+_, _*_, _-_, _/_, _%_, _<_, _≤_}
 use mathlib.Core.Path.{_≡_, refl, sym, ap, _∙_}
 use mathlib.Core.Bool.{Bool, true, false, _&&_}
-use mathlib.Core.List.{List, [], _∷_, _++_}
-use native.Mathlib.Nat.{mul-comm}
+use mathlib.Core.List.{List, []}
 use native.Mathlib.Decide.{decLt}
 use native.Mathlib.Omega.{arith}
 use borrow.Author.Tests.{lt-ltb, le-ltb, eq-eqb, ne-eqb, eqb-false}
@@ -13,24 +12,27 @@ use lib.Seq.{length-take-le}
 use Rattle.refusal.specs.Table.{accepted, too-long, wrong-size, other-tail, no-such-block}
 use Rattle.same.specs.Same.{same}
 use Rattle.word.specs.BigEndian.{AreBytes}
+use Rattle.units.specs.declared.InBits.{InBits}
+use Rattle.units.specs.Units.{bitsOf}
 use Rattle.sm3.specs.Standard.{rest}
 use Rattle.sm3.proofs.Folding.{length-rest}
 use Rattle.padding.specs.declared.Written.{Written}
 use Rattle.padding.specs.Padding.{longest, zeros, padding, blockCount}
 use Rattle.padding.specs.Writing.{tailOf, tailSize, tailAnswer}
-use Rattle.padding.proofs.Tails.{fills, fills-blocks, lastPart, last-part, cases, refused-long, refused-size, accepts, accepted-when}
+use Rattle.padding.proofs.Tails.{length-bits, fills, fills-blocks, cases, refused-long, refused-size, accepts, accepted-when}
+use Rattle.padding.proofs.Wholes.{lastPart, last-part}
 use Rattle.padded.specs.Removing.{statedBits, rightFill}
 use Rattle.padded.specs.Viewing.{viewNumber, viewPart, block}
 use Rattle.padded.proofs.Parts.{by-parts}
 
 -- a tail against what the writer puts there: the message's last bytes, the fill and the stated length
 module _ (s t : List ℕ) (all : AreBytes t) (w : length s ≤ longest) (long : length t ≡ tailSize (length s)) where
-  tail-tests : same t (tailOf s) ≡ (same (take (length s % 64) t) (lastPart s) && rightFill (length s % 64) t && eqb (statedBits t) (length s * 8))
+  tail-tests : same t (tailOf s) ≡ (same (take (length s % 64) t) (lastPart s) && rightFill (length s % 64) t && eqb (statedBits t) (8 * length s))
   unfolding tailOf padding
   tail-tests =
       let whole = fills (length s) in
       let last = length-rest s in
-      rw (last-part s, ← last, mul-comm (length s) 8)
+      rw (last-part s, ← last)
       (by-parts (rest s) t (zeros (length s)) (8 * length s) all (omega arith) (omega arith))
 
   pub other-front : same (take (length s % 64) t) (lastPart s) ≡ false → false ≡ same t (tailOf s)
@@ -39,8 +41,10 @@ module _ (s t : List ℕ) (all : AreBytes t) (w : length s ≤ longest) (long : 
   pub other-fill : same (take (length s % 64) t) (lastPart s) ≡ true → rightFill (length s % 64) t ≡ false → false ≡ same t (tailOf s)
   other-fill h f = sym (tail-tests ∙ rw (h, f))
 
-  pub right-tail : same (take (length s % 64) t) (lastPart s) ≡ true → rightFill (length s % 64) t ≡ true → eqb (statedBits t) (length s * 8) ≡ same t (tailOf s)
-  right-tail h f = sym (tail-tests ∙ rw (h, f))
+  -- the stated bits x, and the bits that the unit's conversion gave
+  pub right-tail : same (take (length s % 64) t) (lastPart s) ≡ true → rightFill (length s % 64) t ≡ true
+      → (x : ℕ) → x ≡ statedBits t → (bits : InBits) → bits ≡ bitsOf (record { 0 = length s }) → eqb x (bits .bits .0) ≡ same t (tailOf s)
+  right-tail h f x stated bits is = rw (stated, length-bits (length s) bits w is) (sym (tail-tests ∙ rw (h, f)))
 
 module _ (s b : List ℕ) (i : ℕ) where
   pub view-long : longest < length s → viewNumber s b i ≡ too-long

@@ -1,7 +1,7 @@
 -- "Viewing": document 01, "Padded blocks". Order of refusals: 10, 11, 13, 12.
-use Prim.Native.Nat.{ℕ, _+_, _*_, _-_, _/_}
+use Prim.Native.Nat.{ℕ, _*_, _-_, _/_}
 use mathlib.Core.List.{List, []}
-use mathlib.Core.Bool.{Bool, cond}
+use mathlib.Core.Bool.{cond}
 use lib.Dec.{ltb, eqb}
 use lib.ListN.{length, take, drop}
 use Rattle.refusal.specs.Table.{accepted, too-long, wrong-size, other-tail, no-such-block}

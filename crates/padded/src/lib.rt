@@ -55,7 +55,8 @@ fn holds_tail(message: &[u8], tail: &[u8]) -> bool
     if !right_fill(tail, kept) {
         return false;
     }
-    stated_bits(tail) == (m as u64) * 8
+    let length = Bytes(m as u64).bits();
+    stated_bits(tail) == length.bits.0
 }
 
 // The number for block i of the padded message. A block inside the message still needs the right tail.
@@ -134,6 +135,7 @@ pub fn remove_part(bytes: &[u8]) -> &[u8]
     if !is_padded(bytes) {
         return &bytes[..0];
     }
-    let m = (stated_bits(bytes) / 8) as usize;
+    let stated = Bits(stated_bits(bytes)).bytes();
+    let m = stated.bytes.0 as usize;
     &bytes[..m]
 }

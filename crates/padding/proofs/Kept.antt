@@ -1,34 +1,19 @@
 -- The crate's promises, kept. Assumes nothing.
-use Prim.Native.Nat.{ℕ, _+_, _*_, _-_, _/_, _%_, _<_, _≤_}
+use Prim.Native.Nat.{ℕ, _+_, _*_, _/_, _%_, _<_, _≤_}
 use mathlib.Core.Path.{_≡_, refl, sym, ap, _∙_}
-use mathlib.Core.Logic.{_⊎_, inl, inr}
-use mathlib.Core.List.{List, _++_, append-assoc}
-use native.Mathlib.Decide.{decLt}
+use mathlib.Core.Logic.{_⊎_, inl, inr, ⊎-elim}
+use mathlib.Core.List.{List, _++_}
 use native.Mathlib.Omega.{arith}
 use borrow.Author.Tests.{eqb-false}
-use lib.ListN.{length, take, drop, length-append, take-append-drop}
+use lib.ListN.{length, take, drop}
 use lib.Seq.{take-at, drop-at}
 use Rattle.refusal.specs.Table.{accepted, too-long, wrong-size}
-use Rattle.sm3.specs.Standard.{rest}
-use Rattle.sm3.proofs.Folding.{length-rest}
-use Rattle.padding.specs.Padding.{longest, zeros, padding, padded, blockCount}
+use Rattle.padding.specs.Padding.{longest, zeros, padded}
 use Rattle.padding.specs.Writing.{tailOf, tailSize, tailAnswer, refusedBy, wrote, written, bufferAfter}
 use Rattle.padding.specs.declared.Written.{Written}
 use Rattle.padding.specs.Promises.{Promises}
-use Rattle.padding.proofs.Tails.{
-  padded-length,
-  tail-length,
-  whole-and-tail,
-  one-block,
-  two-blocks,
-  cases,
-  refused-long,
-  refused-size,
-  accepts,
-  accepted-when,
-  unwritten,
-  tail-written,
-}
+use Rattle.padding.proofs.Tails.{one-or-two, cases, refused-long, refused-size, accepts, accepted-when}
+use Rattle.padding.proofs.Wholes.{padded-length, tail-length, whole-and-tail, unwritten, tail-written}
 
 makes-56 : (m : ℕ) → (m + 1 + zeros m) % 64 ≡ 56
 unfolding zeros
@@ -39,11 +24,7 @@ unfolding zeros
 fewest m z h = omega arith
 
 sizes : (m : ℕ) → (tailSize m ≡ 64) ⊎ (tailSize m ≡ 128)
-sizes m = by (decLt (m % 64) 56)
-  where
-    by : Dec (m % 64 < 56) → (tailSize m ≡ 64) ⊎ (tailSize m ≡ 128)
-    by (yes h) = inl (one-block m h)
-    by (no h) = inr (two-blocks m (omega arith))
+sizes m = ⊎-elim (λ one. inl (one .1)) (λ two. inr (two .1)) (one-or-two m)
 
 module _ (s b : List ℕ) where
   writes : written s b .no ≡ accepted → take (length s / 64 * 64) s ++ take (written s b .count) (bufferAfter s b) ≡ padded s

@@ -1,6 +1,6 @@
 -- Stores one after the other: what the list is to be, said of the list as it stands and of what is still to be stored. Assumes nothing.
 use Prim.Native.Nat.{ℕ, zero, suc, _+_, _-_, _/_, _%_, _<_, _≤_}
-use mathlib.Core.Path.{_≡_, refl, sym, ap, _∙_}
+use mathlib.Core.Path.{_≡_, sym, ap, _∙_}
 use mathlib.Core.List.{List, [], _∷_, _++_, append-assoc}
 use native.Mathlib.Nat.{add-suc, add-zero, sub-self}
 use native.Mathlib.Numerals.{add-one}

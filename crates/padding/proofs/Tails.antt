@@ -1,24 +1,22 @@
 -- When the tail fits into one block, and what a call that writes a tail answers and leaves. Assumes nothing.
 use Prim.Native.Nat.{ℕ, _+_, _*_, _-_, _/_, _%_, _<_, _≤_}
 use mathlib.Core.Path.{_≡_, refl, sym, ap, _∙_}
-use mathlib.Core.List.{List, _∷_, _++_, append-assoc}
+use mathlib.Core.Logic.{_⊎_, inl, inr, ⊎-elim}
+use mathlib.Core.List.{List, _∷_, _++_}
 use native.Mathlib.Decide.{decLt}
 use native.Mathlib.Nat.{mul-comm}
 use native.Mathlib.Omega.{arith}
 use borrow.Author.Tests.{lt-ltb, le-ltb, eq-eqb, ne-eqb, eqb-false}
-use lib.ListN.{length, take, drop, replicate, length-append, length-take, length-drop, length-replicate, take-append-drop}
-use lib.Seq.{take-all, take-at, drop-append-add, drop-drop}
-use Rattle.sm3.specs.Standard.{rest}
-use Rattle.sm3.proofs.Folding.{length-rest}
+use lib.ListN.{length, take, drop, replicate, length-append, length-replicate}
 use Rattle.refusal.specs.Table.{accepted, too-long, wrong-size}
-use Rattle.padding.specs.Padding.{longest, zeros, padding, padded, blockCount}
+use Rattle.padding.specs.Padding.{longest, zeros, padding, blockCount}
 use Rattle.word.specs.BigEndian.{bigEndian}
 use Rattle.word.proofs.BigEndian.{length-bigEndian}
 use Rattle.units.specs.declared.InBits.{InBits}
 use Rattle.units.specs.Units.{bitsOf}
 use Rattle.units.proofs.Exact.{bits-are}
 use Rattle.padding.specs.declared.Written.{Written}
-use Rattle.padding.specs.Writing.{tailOf, tailSize, tailAnswer, tailAfter, refusedBy, wrote, written, bufferAfter}
+use Rattle.padding.specs.Writing.{tailSize, tailAnswer, tailAfter, refusedBy, wrote}
 
 pub one-block : (m : ℕ) → m % 64 < 56 → tailSize m ≡ 64
 unfolding tailSize
@@ -28,23 +26,30 @@ pub two-blocks : (m : ℕ) → 56 ≤ m % 64 → tailSize m ≡ 128
 unfolding tailSize
 two-blocks m h = simp (le-ltb (m % 64) 56 h)
 
+-- one or the other
+pub one-or-two : (m : ℕ) → ((m % 64 < 56) × (tailSize m ≡ 64)) ⊎ ((56 ≤ m % 64) × (tailSize m ≡ 128))
+one-or-two m = by (decLt (m % 64) 56)
+  where
+    by : Dec (m % 64 < 56) → ((m % 64 < 56) × (tailSize m ≡ 64)) ⊎ ((56 ≤ m % 64) × (tailSize m ≡ 128))
+    by (yes h) = inl (h, one-block m h)
+    by (no h) = let more : 56 ≤ m % 64 = omega arith in inr (more, two-blocks m more)
+
 -- the m mod 64 bytes, the byte 80, the zeros and the eight bytes of the length fill the tail
 pub fills : (m : ℕ) → m % 64 + 1 + zeros m + 8 ≡ tailSize m
 unfolding zeros
-fills m = by (decLt (m % 64) 56)
-  where
-    by : Dec (m % 64 < 56) → m % 64 + 1 + (119 - m % 64) % 64 + 8 ≡ tailSize m
-    by (yes h) = rw (one-block m h) (omega arith)
-    by (no h) = rw (two-blocks m (omega arith)) (omega arith)
+fills m = ⊎-elim (λ one. omega arith) (λ two. omega arith) (one-or-two m)
 
 -- the message's whole blocks and the tail's are the padded message's
 pub fills-blocks : (m : ℕ) → 64 * (m / 64) + tailSize m ≡ 64 * blockCount m
 unfolding blockCount
-fills-blocks m = by (decLt (m % 64) 56)
-  where
-    by : Dec (m % 64 < 56) → 64 * (m / 64) + tailSize m ≡ 64 * ((m + 8) / 64 + 1)
-    by (yes h) = rw (one-block m h) (omega arith)
-    by (no h) = rw (two-blocks m (omega arith)) (omega arith)
+fills-blocks m = ⊎-elim (λ one. omega arith) (λ two. omega arith) (one-or-two m)
+
+-- 64 or 128
+pub whole-blocks : (m : ℕ) → tailSize m % 64 ≡ 0
+whole-blocks m = ⊎-elim (λ one. omega arith) (λ two. omega arith) (one-or-two m)
+
+pub at-most-128 : (m : ℕ) → tailSize m ≤ 128
+at-most-128 m = ⊎-elim (λ one. omega arith) (λ two. omega arith) (one-or-two m)
 
 module _ (m room : ℕ) where
   pub refused-long : longest < m → tailAnswer m room ≡ refusedBy too-long
@@ -92,21 +97,6 @@ length-padding m = simp (length-append, length-replicate, length-bigEndian) (ome
 pub fills-tail : (m : ℕ) → m % 64 + length (padding m) ≡ tailSize m
 fills-tail m = omega (arith, length-padding m, fills m)
 
--- 64 or 128
-pub whole-blocks : (m : ℕ) → tailSize m % 64 ≡ 0
-whole-blocks m = by (decLt (m % 64) 56)
-  where
-    by : Dec (m % 64 < 56) → tailSize m % 64 ≡ 0
-    by (yes h) = ap (λ n. n % 64) (one-block m h)
-    by (no h) = ap (λ n. n % 64) (two-blocks m (omega arith))
-
-pub at-most-128 : (m : ℕ) → tailSize m ≤ 128
-at-most-128 m = by (decLt (m % 64) 56)
-  where
-    by : Dec (m % 64 < 56) → tailSize m ≤ 128
-    by (yes h) = omega (arith, one-block m h)
-    by (no h) = omega (arith, two-blocks m (omega arith))
-
 -- where the padding starts, its zeros end and its length ends
 module _ (m room : ℕ) (answer : Written) (is : answer ≡ tailAnswer m room) (ok : answer .no ≡ accepted) where
   pub starts : m % 64 < answer .count - 8
@@ -119,7 +109,7 @@ module _ (m room : ℕ) (answer : Written) (is : answer ≡ tailAnswer m room) (
   big = let known = starts in omega arith
 
 -- the number of bits is what the unit's conversion gave
-length-bits : (m : ℕ) (bits : InBits) → m ≤ longest → bits ≡ bitsOf (record { 0 = m }) → bits .bits .0 ≡ 8 * m
+pub length-bits : (m : ℕ) (bits : InBits) → m ≤ longest → bits ≡ bitsOf (record { 0 = m }) → bits .bits .0 ≡ 8 * m
 length-bits m bits h e = ap (λ r. r .bits .0) (e ∙ bits-are (record { 0 = m }) h) ∙ mul-comm m 8
 
 module _ (m : ℕ) (buffer : List ℕ) (answer : Written) (is : answer ≡ tailAnswer m (length buffer)) where
@@ -148,69 +138,3 @@ module _ (m : ℕ) (buffer : List ℕ) (answer : Written) (is : answer ≡ tailA
 pub pads : (m : ℕ) (buffer : List ℕ) → m ≤ longest → tailSize m ≤ length buffer
     → tailAfter m buffer ≡ take (m % 64) buffer ++ (padding m ++ drop (tailSize m) buffer)
 pads m buffer w r = after m buffer (tailAnswer m (length buffer)) refl (ap (λ a. a .no) (accepts m (length buffer) w r))
-
--- The message's own bytes in front: the part after its last whole block.
-module _ (s : List ℕ) where
-  abbrev pub lastPart : List ℕ
-  lastPart = take (length s - length s / 64 * 64) (drop (length s / 64 * 64) s)
-
-  pub last-part : lastPart ≡ rest s
-  unfolding rest
-  last-part = take-all (length s - length s / 64 * 64) (drop (length s / 64 * 64) s) (omega (arith, length-drop (length s / 64 * 64) s))
-
-  pub last-length : length lastPart ≡ length s % 64
-  last-length = rw (length-take, length-drop (length s / 64 * 64) s) (omega arith)
-
-  -- refused: nothing is written
-  pub unwritten : (buffer : List ℕ) (answer : Written) → answer ≡ tailAnswer (length s) (length buffer) → (answer .no ≡ accepted → ⊥) → buffer ≡ bufferAfter s buffer
-  unfolding bufferAfter written
-  unwritten buffer answer is h = simp (ne-eqb (tailAnswer (length s) (length buffer) .no) accepted (λ z. h (ap (λ r. r .no) is ∙ z)))
-
-  module _ (buffer : List ℕ) (answer : Written) (is : answer ≡ tailAnswer (length s) (length buffer)) (ok : answer .no ≡ accepted) where
-    pub last-fits : length lastPart ≤ length buffer
-    last-fits = let known = accepted-when (length s) (length buffer) answer is ok in omega (arith, last-length, fills (length s))
-
-    module _ (copied : List ℕ) (now : copied ≡ lastPart ++ drop (length lastPart) buffer) where
-      as-long : length copied ≡ length buffer
-      as-long = rw now (omega (arith, length-append lastPart (drop (length lastPart) buffer), length-drop (length lastPart) buffer, last-fits))
-
-      in-front : take (length s % 64) copied ≡ rest s
-      in-front = rw now (take-at lastPart (drop (length lastPart) buffer) (length s % 64) last-length ∙ last-part)
-
-      later : drop (tailSize (length s)) copied ≡ drop (tailSize (length s)) buffer
-      later =
-          let k = tailSize (length s) - length lastPart in
-          let parts : tailSize (length s) ≡ length lastPart + k = omega (arith, last-length, fills (length s)) in
-          rw (parts, now, drop-append-add lastPart (drop (length lastPart) buffer) k, drop-drop k (length lastPart) buffer)
-
-      pub written-is : tailAnswer (length s) (length copied) ≡ written s buffer
-      unfolding written
-      written-is = rw as-long
-
-      pub written-leaves : tailAfter (length s) copied ≡ bufferAfter s buffer
-      unfolding bufferAfter tailOf written
-      written-leaves =
-          after (length s) copied answer (is ∙ ap (tailAnswer (length s)) (sym as-long)) ok
-          ∙ rw (in-front, later, eq-eqb (tailAnswer (length s) (length buffer) .no) accepted (ap (λ r. r .no) (sym is) ∙ ok))
-          (sym (append-assoc (rest s) (padding (length s)) (drop (tailSize (length s)) buffer)))
-
--- accepted: what the writer leaves
-pub tail-written : (s buffer : List ℕ) → written s buffer .no ≡ accepted → bufferAfter s buffer ≡ tailOf s ++ drop (tailSize (length s)) buffer
-unfolding bufferAfter
-tail-written s buffer ok = rw (eq-eqb (written s buffer .no) accepted ok)
-
--- the lengths of a padded message and of its tail
-pub padded-length : (s : List ℕ) → length (padded s) ≡ 64 * blockCount (length s)
-unfolding padded
-padded-length s = omega (arith, length-append s (padding (length s)), fills-tail (length s), fills-blocks (length s))
-
-pub tail-length : (s : List ℕ) → length (tailOf s) ≡ tailSize (length s)
-unfolding tailOf
-tail-length s = omega (arith, length-append (rest s) (padding (length s)), length-rest s, fills-tail (length s))
-
--- the message's whole blocks and its tail
-pub whole-and-tail : (s : List ℕ) → take (length s / 64 * 64) s ++ tailOf s ≡ padded s
-unfolding tailOf padded rest
-whole-and-tail s =
-    sym (append-assoc (take (length s / 64 * 64) s) (drop (length s / 64 * 64) s) (padding (length s)))
-    ∙ ap (λ l. l ++ padding (length s)) (take-append-drop (length s / 64 * 64) s)

@@ -1,7 +1,7 @@
 -- "Writing": document 01, "Padded blocks".
 use Prim.Native.Nat.{ℕ, _%_}
 use mathlib.Core.List.{List, _++_}
-use mathlib.Core.Bool.{Bool, cond}
+use mathlib.Core.Bool.{cond}
 use lib.Dec.{ltb, eqb}
 use lib.ListN.{length, take, drop}
 use Rattle.refusal.specs.Table.{accepted, too-long, wrong-size}

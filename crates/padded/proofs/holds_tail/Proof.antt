@@ -1,9 +1,7 @@
 -- `holds_tail` holds the tail against the message's last bytes, the fill and the stated length. Assumes nothing.
-use mathlib.Core.Path.{sym, ap, _∙_}
+use mathlib.Core.Path.{sym}
 use native.Mathlib.Omega.{arith}
 use borrow.Author.Needs.{needs}
-use Prim.Native.Nat.{_*_}
-use lib.Dec.{eqb}
 use lib.ListN.{length}
 use lib.Seq.{length-take-le}
 use Rattle.same.proofs.Tests.{refuted, confirmed}
@@ -36,15 +34,17 @@ returns-2 c =
 
 stated-bits-requires : tie.Need-stated-bits-requires
 stated-bits-requires c κs =
-    let start = c .before .before .before .before .before .before .before .before in
+    let start = c .before .before .before .before .before .before .before .before .before in
     omega (arith, fills (length (start .args .message .now)), start .pre .1)
 
 returns-3 : tie.Need-returns-3
 returns-3 c =
-    let start = c .before .before .before .before .before .before .before .before .before in
-    ap (λ x. eqb x (length (start .args .message .now) * 8)) (c .stated-bits .ensures)
-    ∙ right-tail _ _ (are-bytes _ (c .before .before .before .before .before .before .before .shared-slice-known2 .given)) (start .pre .0) (start .pre .1) (confirmed (c .before .before .before .before .bytes .ensures) (c .before .before .before .if1 .left))
-    (confirmed (c .before .before .right-fill .ensures) (c .before .if2 .left))
+    let bits = c .before .before in
+    let front = bits .before .before .before .before in
+    let start = front .before .before .before .before .before in
+    right-tail _ _ (are-bytes _ (front .before .before .before .shared-slice-known2 .given)) (start .pre .0) (start .pre .1)
+    (confirmed (front .bytes .ensures) (bits .before .before .before .if1 .left)) (confirmed (bits .before .before .right-fill .ensures) (bits .before .if2 .left))
+    (c .before .stated-bits .result) (c .before .stated-bits .ensures) (bits .bits .result) (bits .bits .ensures)
 
 pub holds-tail-spec : {M : Type 1} → statement M
 holds-tail-spec =
@@ -59,6 +59,6 @@ holds-tail-spec =
     returns
     right-fill-requires
     returns-2
+    (λ c κs. search needs)
     stated-bits-requires
-    (λ c. search needs)
     returns-3)

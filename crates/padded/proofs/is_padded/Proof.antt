@@ -1,5 +1,5 @@
 -- `is_padded` makes the tests in the definition's order. Assumes nothing.
-use mathlib.Core.Path.{sym, _∙_}
+use mathlib.Core.Path.{_∙_}
 use native.Mathlib.Omega.{arith}
 use borrow.Author.Needs.{needs}
 use Rattle.padded.proofs.Removed.{no-bytes, broken-block, broken-byte, count-fits, wrong-count, byte-there, then-fill}

@@ -1,5 +1,5 @@
 -- `pad` writes the padding behind the bytes that stand in the buffer, or leaves it alone where the answer refuses. Assumes nothing.
-use mathlib.Core.Path.{_≡_, _∙_}
+use mathlib.Core.Path.{_∙_}
 use borrow.Author.Needs.{needs}
 use Rattle.padding.proofs.Tails.{left-alone, starts, ends, big, padded-behind}
 use Rattle.padding.proofs.pad.Statement.{statement}

@@ -1,8 +1,8 @@
 -- `write` copies the message's last bytes to the front and pads behind them, or leaves the buffer alone where the answer refuses. Assumes nothing.
-use mathlib.Core.Path.{_≡_, _∙_}
+use mathlib.Core.Path.{_∙_}
 use borrow.Author.Needs.{needs}
 use Rattle.padding.specs.Writing.{written}
-use Rattle.padding.proofs.Tails.{unwritten, last-fits, written-is, written-leaves}
+use Rattle.padding.proofs.Wholes.{unwritten, last-fits, written-is, written-leaves}
 use Rattle.padding.proofs.write.Statement.{statement}
 use Rattle.padding.proofs.write.Tie as tie
 
