@@ -1,0 +1,41 @@
+// Runs the program's work over every stored folder of data/: accepted and refused sheets, and files of every size that matters.
+use libc::STDOUT_FILENO;
+
+fn case(name: &[u8], folder: &[u8]) {
+    io::write_all(STDOUT_FILENO, name);
+    io::write_all(STDOUT_FILENO, b"\n");
+    loader::run(folder);
+}
+
+fn main() {
+    case(b"open", b"open/");
+    case(b"exactly-4096", b"exactly-4096/");
+    case(b"exactly-8192", b"exactly-8192/");
+    case(
+        b"refused-piece-stops-the-file",
+        b"refused-piece-stops-the-file/",
+    );
+    case(b"one-byte-too-long", b"one-byte-too-long/");
+    case(b"decided-then-longer", b"decided-then-longer/");
+    case(b"short-file", b"short-file/");
+    case(b"missing-and-empty-files", b"missing-and-empty-files/");
+    case(b"folder-for-a-file", b"folder-for-a-file/");
+    case(b"all-32-waiting", b"all-32-waiting/");
+    case(b"each-note-alone", b"each-note-alone/");
+    case(b"no-sheet", b"no-sheet/");
+    case(b"empty-sheet", b"empty-sheet/");
+    case(b"form-wrong-word", b"form-wrong-word/");
+    case(b"form-leading-zero", b"form-leading-zero/");
+    case(b"form-carriage-return", b"form-carriage-return/");
+    case(b"form-no-last-line-end", b"form-no-last-line-end/");
+    case(b"form-text-after-the-sheet", b"form-text-after-the-sheet/");
+    case(b"form-sheet-stops-early", b"form-sheet-stops-early/");
+    case(b"form-capital-digest", b"form-capital-digest/");
+    case(b"count-33", b"count-33/");
+    case(b"note-repeated", b"note-repeated/");
+    case(b"note-33", b"note-33/");
+    case(b"length-odd", b"length-odd/");
+    case(b"length-0", b"length-0/");
+    case(b"loop-past-the-sample", b"loop-past-the-sample/");
+    case(b"loop-of-no-frame", b"loop-of-no-frame/");
+}

@@ -1,0 +1,7 @@
+pub mod Tests
+pub mod Marks
+pub mod Numbers
+pub mod Digests
+pub mod Lines
+pub mod Verdicts
+pub mod Listing

@@ -1,0 +1,141 @@
+-- What is judged of a line, and of the lines in order. Assumes nothing.
+use Prim.Native.Nat.{ℕ, suc, _+_, _-_, _<_, _≤_}
+use mathlib.Core.Path.{_≡_, refl, sym, ap, _∙_}
+use mathlib.Core.List.{List}
+use mathlib.Core.Bool.{Bool, true, false, cond, _&&_}
+use mathlib.Core.Logic.{⊎-elim}
+use native.Mathlib.Nat.{sub-zero}
+use native.Mathlib.Omega.{arith}
+use borrow.Author.Tests.{leb-true, le-leb, lt-leb, lt-ltb, le-ltb, eq-eqb, ne-eqb}
+use lib.Dec.{leb, ltb, eqb}
+use lib.ListN.{length}
+use Rattle.refusal.specs.Table.{accepted, form, count-or-note, bad-length, bad-loop}
+use Rattle.same.proofs.Tests.{second}
+use Rattle.session.specs.Rules.{lengthRule, loopRule}
+use Rattle.session.specs.Places.{isNote}
+use Rattle.sheet.specs.Reading.{nothing, noteLine, headerLine}
+use Rattle.sheet.specs.Judging.{countRule, noteRule, headerNumber, entryNumber, noteNumber, allGood, badLine, judgedNotes, judged}
+use Rattle.sheet.specs.declared.Field.{Field}
+use Rattle.sheet.specs.declared.Entry.{Entry}
+use Rattle.sheet.specs.declared.NoteLine.{NoteLine}
+use Rattle.sheet.proofs.Tests.{either}
+
+-- the count
+pub count-low : (count : ℕ) → count < 1 → countRule count ≡ false
+unfolding countRule
+count-low count h = simp (lt-leb 1 count h)
+
+pub count-by : (count : ℕ) → 1 ≤ count → countRule count ≡ leb count 32
+unfolding countRule
+count-by count h = simp (le-leb 1 count h)
+
+pub count-most : (count : ℕ) → countRule count ≡ true → count ≤ 32
+unfolding countRule
+count-most count h = leb-true _ _ (second (leb 1 count) (leb count 32) h)
+
+-- a note
+pub note-low : (last note : ℕ) → note < 1 → noteRule last note ≡ false
+unfolding noteRule isNote
+note-low last note h = simp (lt-leb 1 note h)
+
+pub note-high : (last note : ℕ) → 1 ≤ note → 32 < note → noteRule last note ≡ false
+unfolding noteRule isNote
+note-high last note h k = simp (le-leb 1 note h, lt-leb note 32 k)
+
+pub note-by : (last note : ℕ) → 1 ≤ note → note ≤ 32 → noteRule last note ≡ ltb last note
+unfolding noteRule isNote
+note-by last note h k = simp (le-leb 1 note h, le-leb note 32 k)
+
+-- the number of a header
+module _ (h : Field) where
+  pub header-ill : (h .wanted ≡ nothing → ⊥) → headerNumber h ≡ form
+  unfolding headerNumber
+  header-ill ill = simp (ne-eqb (h .wanted) nothing ill)
+
+  module _ (well : h .wanted ≡ nothing) where
+    pub header-bad : countRule (h .value) ≡ false → headerNumber h ≡ count-or-note
+    unfolding headerNumber
+    header-bad bad = simp (eq-eqb (h .wanted) nothing well, bad)
+
+    pub header-good : countRule (h .value) ≡ true → headerNumber h ≡ accepted
+    unfolding headerNumber
+    header-good good = simp (eq-eqb (h .wanted) nothing well, good)
+
+-- the number of an entry
+module _ (last : ℕ) (e : Entry) where
+  pub entry-note : noteRule last (e .note) ≡ false → entryNumber last e ≡ count-or-note
+  unfolding entryNumber
+  entry-note bad = simp bad
+
+  module _ (note : noteRule last (e .note) ≡ true) where
+    pub entry-length : lengthRule (e .line .length) ≡ false → entryNumber last e ≡ bad-length
+    unfolding entryNumber
+    entry-length bad = simp (note, bad)
+
+    module _ (bytes : lengthRule (e .line .length) ≡ true) where
+      pub entry-loop : loopRule (e .line .length) (e .line .start) (e .line .end) ≡ false → entryNumber last e ≡ bad-loop
+      unfolding entryNumber
+      entry-loop bad = simp (note, bytes, bad)
+
+      pub entry-good : loopRule (e .line .length) (e .line .start) (e .line .end) ≡ true → entryNumber last e ≡ accepted
+      unfolding entryNumber
+      entry-good good = simp (note, bytes, good)
+
+-- and of its line
+pub line-ill : (last : ℕ) (l : NoteLine) → (l .wanted ≡ nothing → ⊥) → noteNumber last l ≡ form
+unfolding noteNumber
+line-ill last l ill = simp (ne-eqb (l .wanted) nothing ill)
+
+pub line-well : (last : ℕ) (l : NoteLine) → l .wanted ≡ nothing → noteNumber last l ≡ entryNumber last (l .entry)
+unfolding noteNumber
+line-well last l well = simp (eq-eqb (l .wanted) nothing well)
+
+-- an accepted header has a count of at most 32
+pub most-notes : (h : Field) (number : ℕ) → number ≡ headerNumber h → number ≡ accepted → h .value ≤ 32
+unfolding headerNumber
+most-notes h number e good = go (eqb (h .wanted) nothing) (countRule (h .value)) refl refl
+  where
+    go : (p q : Bool) → eqb (h .wanted) nothing ≡ p → countRule (h .value) ≡ q → h .value ≤ 32
+    go p true ep eq = count-most (h .value) eq
+    go true false ep eq = let no : number ≡ 2 = e ∙ simp (ep, eq) in absurd (omega arith)
+    go false false ep eq = let no : number ≡ 1 = e ∙ simp (ep, eq) in absurd (omega arith)
+
+-- line 1 decides, or the note lines do
+pub header-decides : (text : List ℕ) (h : Field) (number : ℕ) → h ≡ headerLine text → number ≡ headerNumber h → (number ≡ accepted → ⊥)
+    → badLine number 1 ≡ judged text
+unfolding judged
+header-decides text h number eh en bad = rw (← eh, ← en) (simp (ne-eqb number accepted bad))
+
+pub notes-decide : (text : List ℕ) (h : Field) (number : ℕ) → h ≡ headerLine text → number ≡ headerNumber h → number ≡ accepted
+    → judged text ≡ judgedNotes (h .value - 0) text (h .at) (0 + 2) 0
+unfolding judged
+notes-decide text h number eh en good = rw (← eh, ← en, sub-zero (h .value)) (simp (eq-eqb number accepted good))
+
+-- a note line decides, or those after it do
+module _ (text : List ℕ) (count i at last : ℕ) (more : i < count) (l : NoteLine) (el : l ≡ noteLine text at) (number : ℕ) (en : number ≡ noteNumber last l) where
+  left : count - i ≡ suc (count - (i + 1))
+  left = omega arith
+
+  pub line-decides : (number ≡ accepted → ⊥) → judgedNotes (count - i) text at (i + 2) last ≡ badLine number (i + 2)
+  unfolding judgedNotes
+  line-decides bad = rw left (rw (← el, ← en) (simp (ne-eqb number accepted bad)))
+
+  pub rest-decides : number ≡ accepted
+      → judgedNotes (count - i) text at (i + 2) last ≡ judgedNotes (count - (i + 1)) text (l .at) (i + 1 + 2) (l .entry .note)
+  unfolding judgedNotes
+  rest-decides good =
+      let next : i + 2 + 1 ≡ i + 1 + 2 = omega arith in
+      rw left (rw (← el, ← en) (simp (eq-eqb number accepted good, next)))
+
+-- after the last note line
+module _ (text : List ℕ) (count i at last : ℕ) (done : count ≤ i) where
+  none : count - i ≡ 0
+  none = omega arith
+
+  pub text-follows : at < length text → judgedNotes (count - i) text at (i + 2) last ≡ badLine form (i + 2)
+  unfolding judgedNotes
+  text-follows h = rw none (simp (lt-ltb at (length text) h))
+
+  pub nothing-follows : length text ≤ at → judgedNotes (count - i) text at (i + 2) last ≡ badLine accepted 0
+  unfolding judgedNotes allGood badLine
+  nothing-follows h = rw none (simp (le-ltb at (length text) h))

@@ -1,0 +1,83 @@
+-- Judging a rank sheet: document 01, "The rank sheet". "Lines are judged in order and the first bad one decides."
+use Prim.Native.Nat.{ℕ, zero, suc, _+_}
+use mathlib.Core.List.{List, [], _∷_}
+use mathlib.Core.Bool.{Bool, cond, _&&_}
+use lib.Dec.{leb, ltb, eqb}
+use lib.ListN.{length, set}
+use Rattle.refusal.specs.Table.{accepted, form, count-or-note, bad-length, bad-loop}
+use Rattle.session.specs.Rules.{lengthRule, loopRule}
+use Rattle.session.specs.Slots.{waitingSlot, emptySession}
+use Rattle.session.specs.Places.{isNote, placeOf}
+use Rattle.session.specs.declared.Session.{Session}
+use Rattle.sheet.specs.Reading.{nothing, noteLine, headerLine}
+use Rattle.sheet.specs.declared.Field.{Field}
+use Rattle.sheet.specs.declared.Entry.{Entry}
+use Rattle.sheet.specs.declared.NoteLine.{NoteLine}
+use Rattle.sheet.specs.declared.Verdict.{Verdict}
+use Rattle.sheet.specs.declared.Sheet.{Sheet}
+
+-- "the number of notes n, 1..32"
+unfoldable pub countRule : ℕ → Bool
+countRule count = leb 1 count && leb count 32
+
+-- "Notes are 1..32, rising strictly": above the note of the line before, or above 0
+unfoldable pub noteRule : ℕ → ℕ → Bool
+noteRule last note = isNote note && ltb last note
+
+-- "Within a line: form (1); then count or note (2); length (3); loop (4)"
+unfoldable pub headerNumber : Field → ℕ
+headerNumber h = cond (eqb (h .wanted) nothing) (cond (countRule (h .value)) accepted count-or-note) form
+
+unfoldable pub entryNumber : ℕ → Entry → ℕ
+entryNumber last e =
+    cond (noteRule last (e .note))
+    (cond (lengthRule (e .line .length)) (cond (loopRule (e .line .length) (e .line .start) (e .line .end)) accepted bad-loop) bad-length)
+    count-or-note
+
+unfoldable pub noteNumber : ℕ → NoteLine → ℕ
+noteNumber last l = cond (eqb (l .wanted) nothing) (entryNumber last (l .entry)) form
+
+-- no line is bad: "an accepted sheet's line is 0"; or one is, with its number
+unfoldable pub allGood : Verdict
+allGood = record { no = accepted; line = 0 }
+
+unfoldable pub badLine : ℕ → ℕ → Verdict
+badLine number line = record { no = number; line = line }
+
+-- the lines of so many notes more, from a place, a line's number and the note before; then "Nothing follows"
+unfoldable pub judgedNotes : ℕ → List ℕ → ℕ → ℕ → ℕ → Verdict
+judgedNotes zero text at line last = cond (ltb at (length text)) (badLine form line) allGood
+judgedNotes (suc notes) text at line last =
+    let l = noteLine text at in
+    let rest = judgedNotes notes text (l .at) (line + 1) (l .entry .note) in
+    cond (eqb (noteNumber last l) accepted) rest (badLine (noteNumber last l) line)
+
+-- line 1, and then the lines of n notes
+unfoldable pub judged : List ℕ → Verdict
+judged text =
+    let h = headerLine text in
+    cond (eqb (headerNumber h) accepted) (judgedNotes (h .value) text (h .at) 2 0) (badLine (headerNumber h) 1)
+
+-- the entries of so many note lines, from a place
+unfoldable pub entriesAt : ℕ → List ℕ → ℕ → List Entry
+entriesAt zero text at = []
+entriesAt (suc notes) text at = let l = noteLine text at in l .entry ∷ entriesAt notes text (l .at)
+
+-- the session with the notes of more entries listed, "each waiting, with its own line's record and a fresh state"
+unfoldable pub listed : Session → List Entry → Session
+listed s [] = s
+listed s (e ∷ es) = listed (record { slots = set (s .slots) (placeOf (e .note)) (waitingSlot (e .line)) }) es
+
+-- "An accepted sheet's session lists exactly the notes of its lines"
+unfoldable pub sessionOf : List ℕ → Session
+sessionOf text = let h = headerLine text in listed emptySession (entriesAt (h .value) text (h .at))
+
+-- a sheet's answer: refused with "line number; session with no note listed"
+unfoldable pub refusedSheet : Verdict → Sheet
+refusedSheet j = record { no = j .no; line = j .line; session = emptySession }
+
+unfoldable pub acceptedSheet : Session → Sheet
+acceptedSheet s = record { no = accepted; line = 0; session = s }
+
+unfoldable pub sheetOf : List ℕ → Sheet
+sheetOf text = cond (eqb (judged text .no) accepted) (acceptedSheet (sessionOf text)) (refusedSheet (judged text))
