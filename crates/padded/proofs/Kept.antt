@@ -15,6 +15,7 @@ use Rattle.padded.specs.Viewing.{viewNumber}
 use Rattle.padded.specs.Removing.{statedBits, isPadded, removeNumber, removePart}
 use Rattle.padded.specs.Promises.{Promises, Tailed, PaddedForm}
 use Rattle.padded.proofs.Viewed.{view-long, view-short, view-other, view-past, view-accepts, view-cases, viewed, not-long, not-short, not-other, not-past, not-there, no-part as no-block}
+use Rattle.padded.proofs.Placed.{placed}
 use Rattle.padded.proofs.Joined.{block-is, all-blocks}
 use Rattle.padded.proofs.Removed.{accepts, refuses, part-of, no-part}
 use Rattle.padded.proofs.Forms.{form-padded, form-message, message-short, message-form}
@@ -75,6 +76,7 @@ kept =
       view-thirteen = λ s b i. (is-other s b i, λ h. view-other s b i (h .0) (h .1) (differ-same _ _ (h .2)));
       view-twelve = λ s b i. (is-past s b i, λ h. view-past s b i (h .0 .short) (h .0 .roomy) (equal-same _ _ (h .0 .tail)) (h .1));
       view-refused = λ s b i h. sym (no-block s b i h);
+      view-placed = placed;
       remover = λ b all. (λ e. has-form b all (accepted-padded b e), λ f. sym (accepts b (form-is-padded b f)));
       remover-fourteen =
           λ b all. (

@@ -8,7 +8,7 @@ use Rattle.refusal.specs.Table.{accepted, too-long, wrong-size, other-tail, no-
 use Rattle.word.specs.BigEndian.{AreBytes}
 use Rattle.padding.specs.Padding.{longest, padded, blockCount}
 use Rattle.padding.specs.Writing.{tailOf, tailSize}
-use Rattle.padded.specs.Viewing.{viewNumber, viewPart}
+use Rattle.padded.specs.Viewing.{viewNumber, viewPart, viewPlace, partAt}
 use Rattle.padded.specs.Removing.{removeNumber, removePart}
 
 -- the first n viewed blocks, joined
@@ -43,6 +43,8 @@ pub record Promises : Type 0 where
       ↔ ((length message ≤ longest) × (tailSize (length message) ≤ length buffer) × (take (tailSize (length message)) buffer ≡ tailOf message → ⊥))
   pub view-twelve : (message buffer : List ℕ) (i : ℕ) → (viewNumber message buffer i ≡ no-such-block) ↔ (Tailed message buffer × (blockCount (length message) ≤ i))
   pub view-refused : (message buffer : List ℕ) (i : ℕ) → (viewNumber message buffer i ≡ accepted → ⊥) → viewPart message buffer i ≡ []
+  -- the part is at its place
+  pub view-placed : (message buffer : List ℕ) (i : ℕ) → viewPart message buffer i ≡ partAt message buffer (viewPlace message buffer i)
   -- bytes are accepted by the remover exactly when they are the padded form of some message of at most 2^61 - 1 bytes, else 14
   pub remover : (bytes : List ℕ) → AreBytes bytes → (removeNumber bytes ≡ accepted) ↔ PaddedForm bytes
   pub remover-fourteen : (bytes : List ℕ) → AreBytes bytes → (removeNumber bytes ≡ not-padded) ↔ (PaddedForm bytes → ⊥)

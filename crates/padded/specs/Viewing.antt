@@ -8,6 +8,7 @@ use Rattle.refusal.specs.Table.{accepted, too-long, wrong-size, other-tail, no-
 use Rattle.same.specs.Same.{same}
 use Rattle.padding.specs.Padding.{longest, blockCount}
 use Rattle.padding.specs.Writing.{tailOf, tailSize}
+use Rattle.padded.specs.declared.Place.{Place}
 
 -- the number for block i of the padded message, given the message and the tail buffer
 unfoldable pub viewNumber : List ℕ → List ℕ → ℕ → ℕ
@@ -26,3 +27,24 @@ block message buffer i =
 -- the part for block i: empty where the number is a refusal
 unfoldable pub viewPart : List ℕ → List ℕ → ℕ → List ℕ
 viewPart message buffer i = cond (eqb (viewNumber message buffer i) accepted) (block message buffer i) []
+
+-- A part by its place, for a host that cannot be handed a slice: which of the two it is part of, from which byte, and how many
+abbrev pub inNeither : ℕ
+inNeither = 0
+
+abbrev pub inMessage : ℕ
+inMessage = 1
+
+abbrev pub inBuffer : ℕ
+inBuffer = 2
+
+unfoldable pub viewPlace : List ℕ → List ℕ → ℕ → Place
+viewPlace message buffer i =
+    cond (eqb (viewNumber message buffer i) accepted)
+    (cond (ltb i (length message / 64)) (record { which = inMessage; offset = 64 * i; length = 64 })
+    (record { which = inBuffer; offset = 64 * (i - length message / 64); length = 64 }))
+    (record { which = inNeither; offset = 0; length = 0 })
+
+-- the bytes at a place
+unfoldable pub partAt : List ℕ → List ℕ → Place → List ℕ
+partAt message buffer p = take (p .length) (drop (p .offset) (cond (eqb (p .which) inMessage) message buffer))

@@ -16,8 +16,22 @@ ghost use lib.ListN.{length};
 ghost use Rattle.same.specs.Same.{same};
 ghost use Rattle.padding.specs.Padding.{longest};
 ghost use Rattle.padding.specs.Writing.{tailOf, tailSize};
-ghost use Rattle.padded.specs.Viewing.{viewNumber, viewPart};
+ghost use Rattle.padded.specs.Viewing.{viewNumber, viewPart, viewPlace};
 ghost use Rattle.padded.specs.Removing.{statedBits, rightFill, isPadded, removeNumber, removePart};
+
+// A part by its place, for a host that cannot be handed a slice: which of the two it is part of, from which byte, and how many.
+#[repr(C)]
+pub struct Place {
+    pub which: u8,
+    pub offset: usize,
+    pub length: usize,
+}
+
+pub const IN_NEITHER: u8 = 0;
+
+pub const IN_MESSAGE: u8 = 1;
+
+pub const IN_BUFFER: u8 = 2;
 
 // The bits that the last eight bytes state.
 fn stated_bits(bytes: &[u8]) -> u64
@@ -95,6 +109,32 @@ pub fn view_part<'a>(message: &'a [u8], buffer: &'a [u8], i: usize) -> &'a [u8]
     let from = 64 * (i - whole);
     let to = from + 64;
     &buffer[from..to]
+}
+
+// Where block i lies.
+pub fn view_place(message: &[u8], buffer: &[u8], i: usize) -> Place
+    ensures { λ r. ⌜ r ≡ viewPlace (now (message .entry)) (now (buffer .entry)) i ⌝ }
+{
+    if view_number(message, buffer, i) != ACCEPTED {
+        return Place {
+            which: IN_NEITHER,
+            offset: 0,
+            length: 0,
+        };
+    }
+    let whole = message.len() / 64;
+    if i < whole {
+        return Place {
+            which: IN_MESSAGE,
+            offset: 64 * i,
+            length: 64,
+        };
+    }
+    Place {
+        which: IN_BUFFER,
+        offset: 64 * (i - whole),
+        length: 64,
+    }
 }
 
 // Whether the bytes are a padded message.

@@ -12,6 +12,7 @@ ghost use Rattle.padding.specs.Padding.{blockCount};
 ghost use Rattle.padding.specs.Writing.{tailSize, tailAnswer, tailAfter, written, bufferAfter};
 
 // What the padding writer answers: its number, and 64 or 128, the bytes that it wrote (0 where it refuses).
+#[repr(C)]
 pub struct Written {
     pub no: u8,
     pub count: usize,

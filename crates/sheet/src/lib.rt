@@ -38,6 +38,7 @@ pub struct NoteLine {
 }
 
 // Whether a line is bad: its refusal number and its line number, from 1; both 0 where none is.
+#[repr(C)]
 pub struct Verdict {
     pub no: u8,
     pub line: u32,
