@@ -1,5 +1,5 @@
 # Where the Rattle kit is, and how an x86-64 program of it is run on this machine. Sourced, from any folder.
-# Sets KIT and TOOLCHAIN; `run_x86 PROGRAM WORDS..` runs a program that rt or scripts/kit.sh's own `link_x86` made.
+# Sets KIT and TOOLCHAIN; `run_x86 PROGRAM WORDS..` runs a program that rt made, or `link_x86` below.
 
 need() { # need TOOL..: one clear line where a tool is missing
     local tool
@@ -15,11 +15,11 @@ need rt
 KIT=$(dirname "$(dirname "$(rt doc)")")
 TOOLCHAIN=$KIT/on/$(uname -m)/toolchain
 
-run_x86() {
-    local emulator=()
-    [ "$(uname -m)" = x86_64 ] || emulator=("$TOOLCHAIN/bin/qemu-x86_64" -cpu max)
-    ${emulator[@]+"${emulator[@]}"} "$TOOLCHAIN/lib/ld-linux-x86-64.so.2" --library-path "$TOOLCHAIN/lib" "$@"
-}
+# the words that run an x86-64 program here: the kit's loader, on another machine under the kit's emulator
+RUN_X86=("$TOOLCHAIN/lib/ld-linux-x86-64.so.2" --library-path "$TOOLCHAIN/lib")
+[ "$(uname -m)" = x86_64 ] || RUN_X86=("$TOOLCHAIN/bin/qemu-x86_64" -cpu max "${RUN_X86[@]}")
+
+run_x86() { "${RUN_X86[@]}" "$@"; }
 
 # compile_x86 OUT.o SOURCE.c WORDS..: C for the machine that Rattle compiles for
 compile_x86() {
