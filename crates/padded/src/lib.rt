@@ -122,8 +122,8 @@ pub fn view_place(message: &[u8], buffer: &[u8], i: usize) -> Place
             length: 0,
         };
     }
-    let whole = message.len() / 64;
-    if i < whole {
+    let inside = message.len() / 64;
+    if i < inside {
         return Place {
             which: IN_MESSAGE,
             offset: 64 * i,
@@ -132,7 +132,7 @@ pub fn view_place(message: &[u8], buffer: &[u8], i: usize) -> Place
     }
     Place {
         which: IN_BUFFER,
-        offset: 64 * (i - whole),
+        offset: 64 * (i - inside),
         length: 64,
     }
 }

@@ -15,7 +15,7 @@ use Rattle.session.specs.declared.Slot.{Slot}
 use Rattle.session.specs.declared.Step.{Step}
 use Rattle.session.specs.declared.Session.{Session}
 use Rattle.promises.specs.Deliveries.{Delivery, after, addedBytes, acceptedBytes}
-use Rattle.promises.specs.Demand3.{LineRecord}
+use Rattle.promises.proofs.LineRecord.{LineRecord}
 use Rattle.promises.proofs.OneNote.{view, is-listed}
 use Rattle.promises.proofs.Reordering.{does, does-deliver, own-step, other-step}
 use Rattle.promises.proofs.Reached.{reached, takes, runs-past, after-decided, not-absent}

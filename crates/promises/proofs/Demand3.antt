@@ -20,8 +20,10 @@ use Rattle.session.specs.declared.Record.{Record}
 use Rattle.session.specs.declared.Slot.{Slot}
 use Rattle.session.specs.declared.Answer.{Answer}
 use Rattle.session.specs.declared.Session.{Session}
+use Rattle.sheet.specs.Judging.{sheetOf}
 use Rattle.promises.specs.Deliveries.{Delivery, after, acceptedBytes}
-use Rattle.promises.specs.Demand3.{LineRecord, Loaded, Lists, verdict, Promised, Demand3}
+use Rattle.promises.specs.Demand3.{verdict, Promised, Demand3}
+use Rattle.promises.proofs.LineRecord.{LineRecord, Lists, line-record, listed-there, not-there}
 use Rattle.promises.proofs.OneNote.{view, slotOf-view, asks, own, unchanged, parts}
 use Rattle.promises.proofs.Reached.{reached, reached-nothing, takes, runs-past, after-decided, stands-waiting, stands-decided, asked}
 use Rattle.promises.proofs.Accepted.{Reaches, is-listed-reached, grows}
@@ -115,30 +117,22 @@ module _ (r : Record) (line : LineRecord r) (note : ℕ) (low : 1 ≤ note) (hig
               ∙ rw (stands-decided r line b decided (omega arith), e);
         }
 
--- in an accepted sheet's session a listed note's record is a line's, and nothing was accepted for it
-module _ (s : Session) (note : ℕ) (r : Record) (lists : Lists s note r) where
-  line-record : Loaded s → LineRecord r
-  unfolding emptySlot waitingSlot
-  line-record loaded = go (loaded note (lists .first) (lists .last))
-    where
-      go : (slotOf s note ≡ emptySlot) ⊎ ((r′ : Record) × LineRecord r′ × (slotOf s note ≡ waitingSlot r′)) → LineRecord r
-      go (inl e) =
-          let clash : _≡_ {A = ℕ} waiting absent = ap (λ (x : Slot). x .status) (sym (lists .slot) ∙ e) in
-          absurd (omega arith)
-      go (inr l) =
-          let equal : r ≡ l .0 = ap (λ (x : Slot). x .line) (sym (lists .slot) ∙ l .2) in
-          rw equal (l .1)
+-- a listed note for which nothing was accepted yet, and then any deliveries
+module _ (s : Session) (note : ℕ) (r : Record) (line : LineRecord r) (lists : Lists s note r) where
+  at-start : Reaches r [] (view s note)
+  at-start = (sym (slotOf-view s note (lists .first)) ∙ lists .slot ∙ sym (reached-nothing r line), omega arith)
 
-  at-start : LineRecord r → Reaches r [] (view s note)
-  at-start line = (sym (slotOf-view s note (lists .first)) ∙ lists .slot ∙ sym (reached-nothing r line), omega arith)
+  from-start : (ds : List Delivery) → Promised (after s ds) note r (acceptedBytes note s ds)
+  from-start ds =
+      promised r line note (lists .first) (lists .last) (after s ds) (acceptedBytes note s ds)
+      (grows r line note (lists .first) (lists .last) s [] ds at-start)
 
 pub demand3 : Demand3
 demand3 =
     record {
       listed =
-          λ s loaded note r lists ds.
-          let line = line-record s note r lists loaded in
-          promised r line note (lists .first) (lists .last) (after s ds) (acceptedBytes note s ds)
-          (grows r line note (lists .first) (lists .last) s [] ds (at-start s note r lists line));
+          λ text es sheet e among.
+          from-start (sheetOf text .session) (e .note) (e .line) (line-record text es sheet e among) (listed-there text es sheet e among);
+      others = λ text es sheet note none. unlisted-stays (sheetOf text .session) note (not-there text es sheet note none);
       unlisted = unlisted-stays;
     }

@@ -1,3 +1,4 @@
+pub mod LineRecord
 pub mod Examples
 pub mod OneNote
 pub mod Reordering
@@ -5,5 +6,4 @@ pub mod Reached
 pub mod Accepted
 pub mod Unlisted
 pub mod Demand3
-pub mod Loaded
 pub mod Kept

@@ -28,7 +28,8 @@ use Rattle.session.proofs.Rules.{length-rule-is}
 use Rattle.session.proofs.Deliver.{is-decided, runs-past as slot-runs-past, is-taken, waits-on, is-judged, asked as slot-asked}
 use Rattle.session.specs.declared.Record.{Record}
 use Rattle.session.specs.declared.Slot.{Slot}
-use Rattle.promises.specs.Demand3.{LineRecord, verdict}
+use Rattle.promises.specs.Demand3.{verdict}
+use Rattle.promises.proofs.LineRecord.{LineRecord}
 
 -- waiting, with these bytes taken; decided, by these bytes
 waitsWith : Record → List ℕ → Slot

@@ -2,37 +2,24 @@
 -- and a waiting note's piece is accepted exactly when it doesn't run past that length; there the note is open if the accepted bytes' SM3 digest is the
 -- sheet's and shut if not, and it stays so." (Its last sentence is specs/Reordering.antt.)
 use mathlib.Core.Path.{_≡_}
-use mathlib.Core.Logic.{_↔_, _⊎_}
+use mathlib.Core.Logic.{_↔_}
 use mathlib.Core.List.{List}
-use mathlib.Core.Bool.{true, cond}
+use mathlib.Core.Bool.{cond}
 use Prim.Native.Nat.{ℕ, _+_, _≤_, _<_}
 use lib.ListN.{length}
 use Rattle.refusal.specs.Table.{accepted, unlisted, decided, past-length}
 use Rattle.same.specs.Same.{same}
 use Rattle.hash.specs.Sm3.{sm3}
-use Rattle.session.specs.Rules.{obeys}
-use Rattle.session.specs.Slots.{waiting, opened, shut, emptySlot, waitingSlot}
-use Rattle.session.specs.Deliver.{nothing, slotOf, deliver, ask}
+use Rattle.session.specs.Slots.{waiting, opened, shut}
+use Rattle.session.specs.Deliver.{nothing, deliver, ask}
 use Rattle.session.specs.Promises.{Unlisted}
 use Rattle.session.specs.declared.Record.{Record}
 use Rattle.session.specs.declared.Session.{Session}
+use Rattle.sheet.specs.Judging.{sheetOf}
+use Rattle.sheet.specs.declared.Entry.{Entry}
+use Rattle.sheet_promises.specs.Grammar.{IsSheet}
+use Rattle.sheet_promises.specs.Promises.{Among}
 use Rattle.promises.specs.Deliveries.{Delivery, after, acceptedBytes}
-
--- what a sheet's line says of a note: it "obeys rules 3 and 4", and its digest has 32 bytes
-pub record LineRecord (r : Record) : Type 0 where
-  pub rules : obeys r ≡ true
-  pub digest : length (r .digest) ≡ 32
-
--- "An accepted sheet's session lists exactly the notes of its lines, each waiting, with its own line's record and a fresh state"; the other slots are empty
-abbrev pub Loaded : Session → Type 0
-Loaded s =
-    (note : ℕ) → 1 ≤ note → note ≤ 32 → (slotOf s note ≡ emptySlot) ⊎ ((r : Record) × LineRecord r × (slotOf s note ≡ waitingSlot r))
-
--- a note that such a session lists, and its record
-pub record Lists (s : Session) (note : ℕ) (r : Record) : Type 0 where
-  pub first : 1 ≤ note
-  pub last : note ≤ 32
-  pub slot : slotOf s note ≡ waitingSlot r
 
 -- "open if the accepted bytes' SM3 digest is the sheet's and shut if not"
 unfoldable pub verdict : Record → List ℕ → ℕ
@@ -67,8 +54,11 @@ pub record NotListed (s : Session) (note : ℕ) : Type 0 where
   pub refused : (piece : List ℕ) → deliver s note piece ≡ record { answer = nothing unlisted; session = s }
 
 pub record Demand3 : Type 0 where
-  -- "From an accepted sheet, after any sequence of deliveries"
-  pub listed : (s : Session) → Loaded s → (note : ℕ) (r : Record) → Lists s note r → (ds : List Delivery)
-      → Promised (after s ds) note r (acceptedBytes note s ds)
-  -- and no note but those: from any session
+  -- "From an accepted sheet, after any sequence of deliveries": of every note that its lines list
+  pub listed : (text : List ℕ) (es : List Entry) → IsSheet text es → (e : Entry) → Among e es → (ds : List Delivery)
+      → Promised (after (sheetOf text .session) ds) (e .note) (e .line) (acceptedBytes (e .note) (sheetOf text .session) ds)
+  -- and of every other number
+  pub others : (text : List ℕ) (es : List Entry) → IsSheet text es → (note : ℕ) → ((e : Entry) → Among e es → e .note ≡ note → ⊥) → (ds : List Delivery)
+      → NotListed (after (sheetOf text .session) ds) note
+  -- from any session at all, a note that is not listed never is
   pub unlisted : (s : Session) (note : ℕ) → Unlisted s note → (ds : List Delivery) → NotListed (after s ds) note

@@ -1,19 +1,17 @@
 -- Digests, read two digits at a time. Assumes nothing.
 use Prim.Native.Nat.{ℕ, suc, _+_, _*_, _-_, _<_, _≤_}
-use mathlib.Core.Path.{_≡_, refl, sym, ap, _∙_}
+use mathlib.Core.Path.{_≡_, _∙_}
 use mathlib.Core.List.{List, [], _∷_, _++_}
-use mathlib.Core.Bool.{Bool, true, false, cond}
 use mathlib.Core.Logic.{⊎-elim}
 use native.Mathlib.Numerals.{add-one}
 use Rattle.sheet.proofs.Tests.{below-or-not}
 use native.Mathlib.Omega.{arith}
 use borrow.Author.Tests.{lt-ltb, le-ltb}
-use lib.Dec.{ltb}
-use lib.ListN.{length, getD, drop, take, set, List·getD-eq-default}
+use lib.ListN.{length, getD, take, set, List·getD-eq-default}
 use lib.Seq.{take-suc-set, take-all}
 use Rattle.hex.specs.Digits.{digitOf, digits}
 use Rattle.hex.proofs.Digits.{rule}
-use Rattle.sheet.specs.Reading.{digestIs, digestFault, digitAt, isDigitAt, pairAt, digestFrom, digestAt}
+use Rattle.sheet.specs.Reading.{digestIs, digestFault, digitAt, isDigitAt, pairAt, digestFrom}
 
 -- the digit at a place by the table, and past the end
 pub digit-in : (text table : List ℕ) (at : ℕ) → table ≡ digits → getD text at 0 < 256 → getD table (getD text at 0) 0 ≡ digitAt text at

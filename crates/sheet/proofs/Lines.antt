@@ -1,14 +1,12 @@
 -- Fields one after the other: what a line is where its first fault stands, and where it has none. Assumes nothing.
 use Prim.Native.Nat.{ℕ, _+_}
-use mathlib.Core.Path.{_≡_, refl, sym, _∙_}
+use mathlib.Core.Path.{_≡_, sym, _∙_}
 use mathlib.Core.List.{List, [], _∷_}
-use mathlib.Core.Bool.{true, false, cond}
+use mathlib.Core.Bool.{true, false}
 use borrow.Author.Tests.{eq-eqb, ne-eqb}
-use lib.Dec.{eqb}
 use Rattle.sheet.specs.Reading.{nothing, word, separator, tab, lf, fieldIs, fieldFault, hasAt, markAt, wordAt, after, numberAt, fieldAt, digestAt, lineIs, lineFault, lineAfter, noteLine, headerLine}
 use Rattle.sheet.specs.declared.Field.{Field}
 use Rattle.sheet.specs.declared.DigestField.{DigestField}
-use Rattle.sheet.specs.declared.Entry.{Entry}
 use Rattle.sheet.specs.declared.NoteLine.{NoteLine}
 
 -- a field has a fault, or it has none

@@ -1,11 +1,11 @@
 -- Note after note is listed. Assumes nothing.
 use Prim.Native.Nat.{ℕ, suc, _+_, _-_, _<_, _≤_}
-use mathlib.Core.Path.{_≡_, refl, sym, _∙_}
+use mathlib.Core.Path.{_≡_}
 use mathlib.Core.List.{List}
+use mathlib.Core.Logic.{_⊎_, inl, inr}
 use native.Mathlib.Nat.{sub-zero}
 use native.Mathlib.Omega.{arith}
 use borrow.Author.Tests.{eq-eqb, ne-eqb}
-use lib.Dec.{eqb}
 use lib.ListN.{set}
 use Rattle.refusal.specs.Table.{accepted}
 use Rattle.session.specs.Slots.{waitingSlot, emptySession}
@@ -13,11 +13,10 @@ use Rattle.session.specs.Places.{placeOf}
 use Rattle.session.specs.declared.Slot.{Slot}
 use Rattle.session.specs.declared.Session.{Session}
 use Rattle.sheet.specs.Reading.{noteLine, headerLine}
-use Rattle.sheet.specs.Judging.{judged, entriesAt, listed, sessionOf, refusedSheet, acceptedSheet, sheetOf}
+use Rattle.sheet.specs.Judging.{judged, entriesAt, listed, sessionOf, sheetIs, sheetOf}
 use Rattle.sheet.specs.declared.Field.{Field}
 use Rattle.sheet.specs.declared.NoteLine.{NoteLine}
 use Rattle.sheet.specs.declared.Verdict.{Verdict}
-use Rattle.sheet.specs.declared.Sheet.{Sheet}
 
 -- none is listed yet
 pub lists-none : (text : List ℕ) (notes at : ℕ) (first s : Session) → s ≡ first
@@ -40,13 +39,10 @@ lists-all text notes i at s done =
     let none : notes - i ≡ 0 = omega arith in
     rw none
 
--- a sheet is refused, or its session lists its lines' notes
-pub sheet-refused : (text : List ℕ) (v : Verdict) (s : Session) → v ≡ judged text → (v .no ≡ accepted → ⊥) → s ≡ emptySession
-    → record { no = v .no; line = v .line; session = s } ≡ sheetOf text
-unfolding sheetOf refusedSheet
-sheet-refused text v s ev bad es = rw (← ev, es) (simp (ne-eqb (v .no) accepted bad))
-
-pub sheet-accepted : (text : List ℕ) (v : Verdict) (h : Field) (s : Session) → v ≡ judged text → v .no ≡ accepted → h ≡ headerLine text
-    → s ≡ listed emptySession (entriesAt (h .value) text (h .at)) → record { no = 0; line = 0; session = s } ≡ sheetOf text
-unfolding sheetOf acceptedSheet sessionOf
-sheet-accepted text v h s ev good eh es = rw (← ev, es) (simp (eq-eqb (v .no) accepted good, eh))
+-- a sheet's session lists its lines' notes, or none where it is refused
+pub sheet-session : (text : List ℕ) (v : Verdict) (h : Field) (notes : ℕ) (s : Session) → v ≡ judged text → h ≡ headerLine text
+    → ((v .no ≡ accepted) × (notes ≡ h .value)) ⊎ ((v .no ≡ accepted → ⊥) × (notes ≡ 0)) → s ≡ listed emptySession (entriesAt notes text (h .at))
+    → sheetIs v s ≡ sheetOf text
+unfolding sheetOf sessionOf entriesAt listed
+sheet-session text v h notes s ev eh (inl (good, en)) es = rw (← ev, es, en) (simp (eq-eqb (v .no) accepted good, eh))
+sheet-session text v h notes s ev eh (inr (bad, en)) es = rw (← ev, es, en) (simp (ne-eqb (v .no) accepted bad))

@@ -1,9 +1,8 @@
 -- What is judged of a line, and of the lines in order. Assumes nothing.
 use Prim.Native.Nat.{ℕ, suc, _+_, _-_, _<_, _≤_}
-use mathlib.Core.Path.{_≡_, refl, sym, ap, _∙_}
+use mathlib.Core.Path.{_≡_, refl, _∙_}
 use mathlib.Core.List.{List}
-use mathlib.Core.Bool.{Bool, true, false, cond, _&&_}
-use mathlib.Core.Logic.{⊎-elim}
+use mathlib.Core.Bool.{Bool, true, false}
 use native.Mathlib.Nat.{sub-zero}
 use native.Mathlib.Omega.{arith}
 use borrow.Author.Tests.{leb-true, le-leb, lt-leb, lt-ltb, le-ltb, eq-eqb, ne-eqb}
@@ -18,7 +17,6 @@ use Rattle.sheet.specs.Judging.{countRule, noteRule, headerNumber, entry
 use Rattle.sheet.specs.declared.Field.{Field}
 use Rattle.sheet.specs.declared.Entry.{Entry}
 use Rattle.sheet.specs.declared.NoteLine.{NoteLine}
-use Rattle.sheet.proofs.Tests.{either}
 
 -- the count
 pub count-low : (count : ℕ) → count < 1 → countRule count ≡ false
@@ -107,35 +105,53 @@ unfolding judged
 header-decides text h number eh en bad = rw (← eh, ← en) (simp (ne-eqb number accepted bad))
 
 pub notes-decide : (text : List ℕ) (h : Field) (number : ℕ) → h ≡ headerLine text → number ≡ headerNumber h → number ≡ accepted
-    → judged text ≡ judgedNotes (h .value - 0) text (h .at) (0 + 2) 0
+    → judged text ≡ judgedNotes (h .value) text (h .at) 2 0
 unfolding judged
-notes-decide text h number eh en good = rw (← eh, ← en, sub-zero (h .value)) (simp (eq-eqb number accepted good))
+notes-decide text h number eh en good = rw (← eh, ← en) (simp (eq-eqb number accepted good))
 
 -- a note line decides, or those after it do
+module _ (text : List ℕ) (notes at line last : ℕ) (l : NoteLine) (el : l ≡ noteLine text at) (number : ℕ) (en : number ≡ noteNumber last l) where
+  pub this-decides : (number ≡ accepted → ⊥) → judgedNotes (suc notes) text at line last ≡ badLine number line
+  unfolding judgedNotes
+  this-decides bad = rw (← el, ← en) (simp (ne-eqb number accepted bad))
+
+  pub rest-decides : number ≡ accepted → judgedNotes (suc notes) text at line last ≡ judgedNotes notes text (l .at) (line + 1) (l .entry .note)
+  unfolding judgedNotes
+  rest-decides good = rw (← el, ← en) (simp (eq-eqb number accepted good))
+
+-- after the last note line
+pub text-follows : (text : List ℕ) (at line last : ℕ) → at < length text → judgedNotes 0 text at line last ≡ badLine form line
+unfolding judgedNotes
+text-follows text at line last h = simp (lt-ltb at (length text) h)
+
+pub nothing-follows : (text : List ℕ) (at line last : ℕ) → length text ≤ at → judgedNotes 0 text at line last ≡ badLine accepted 0
+unfolding judgedNotes allGood badLine
+nothing-follows text at line last h = simp (le-ltb at (length text) h)
+
+-- the same in the loop, which has judged i note lines of so many
+pub none-yet : (text : List ℕ) (h : Field) (number : ℕ) → h ≡ headerLine text → number ≡ headerNumber h → number ≡ accepted
+    → judged text ≡ judgedNotes (h .value - 0) text (h .at) (0 + 2) 0
+none-yet text h number eh en good = rw (sub-zero (h .value)) (notes-decide text h number eh en good)
+
 module _ (text : List ℕ) (count i at last : ℕ) (more : i < count) (l : NoteLine) (el : l ≡ noteLine text at) (number : ℕ) (en : number ≡ noteNumber last l) where
   left : count - i ≡ suc (count - (i + 1))
   left = omega arith
 
-  pub line-decides : (number ≡ accepted → ⊥) → judgedNotes (count - i) text at (i + 2) last ≡ badLine number (i + 2)
-  unfolding judgedNotes
-  line-decides bad = rw left (rw (← el, ← en) (simp (ne-eqb number accepted bad)))
+  pub this-of-many : (number ≡ accepted → ⊥) → judgedNotes (count - i) text at (i + 2) last ≡ badLine number (i + 2)
+  this-of-many bad = rw left (this-decides text _ at (i + 2) last l el number en bad)
 
-  pub rest-decides : number ≡ accepted
+  pub rest-of-many : number ≡ accepted
       → judgedNotes (count - i) text at (i + 2) last ≡ judgedNotes (count - (i + 1)) text (l .at) (i + 1 + 2) (l .entry .note)
-  unfolding judgedNotes
-  rest-decides good =
+  rest-of-many good =
       let next : i + 2 + 1 ≡ i + 1 + 2 = omega arith in
-      rw left (rw (← el, ← en) (simp (eq-eqb number accepted good, next)))
+      rw (left, ← next) (rest-decides text _ at (i + 2) last l el number en good)
 
--- after the last note line
 module _ (text : List ℕ) (count i at last : ℕ) (done : count ≤ i) where
   none : count - i ≡ 0
   none = omega arith
 
-  pub text-follows : at < length text → judgedNotes (count - i) text at (i + 2) last ≡ badLine form (i + 2)
-  unfolding judgedNotes
-  text-follows h = rw none (simp (lt-ltb at (length text) h))
+  pub text-after-all : at < length text → judgedNotes (count - i) text at (i + 2) last ≡ badLine form (i + 2)
+  text-after-all h = rw none (text-follows text at (i + 2) last h)
 
-  pub nothing-follows : length text ≤ at → judgedNotes (count - i) text at (i + 2) last ≡ badLine accepted 0
-  unfolding judgedNotes allGood badLine
-  nothing-follows h = rw none (simp (le-ltb at (length text) h))
+  pub end-after-all : length text ≤ at → judgedNotes (count - i) text at (i + 2) last ≡ badLine accepted 0
+  end-after-all h = rw none (nothing-follows text at (i + 2) last h)

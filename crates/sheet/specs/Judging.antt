@@ -72,12 +72,10 @@ listed s (e ∷ es) = listed (record { slots = set (s .slots) (placeOf (e .note)
 unfoldable pub sessionOf : List ℕ → Session
 sessionOf text = let h = headerLine text in listed emptySession (entriesAt (h .value) text (h .at))
 
--- a sheet's answer: refused with "line number; session with no note listed"
-unfoldable pub refusedSheet : Verdict → Sheet
-refusedSheet j = record { no = j .no; line = j .line; session = emptySession }
+-- what reading a sheet answers
+unfoldable pub sheetIs : Verdict → Session → Sheet
+sheetIs v s = record { no = v .no; line = v .line; session = s }
 
-unfoldable pub acceptedSheet : Session → Sheet
-acceptedSheet s = record { no = accepted; line = 0; session = s }
-
+-- a refused sheet: "line number; session with no note listed"
 unfoldable pub sheetOf : List ℕ → Sheet
-sheetOf text = cond (eqb (judged text .no) accepted) (acceptedSheet (sessionOf text)) (refusedSheet (judged text))
+sheetOf text = sheetIs (judged text) (cond (eqb (judged text .no) accepted) (sessionOf text) emptySession)

@@ -6,7 +6,6 @@ use mathlib.Core.Bool.{Bool, cond, _&&_}
 use lib.Dec.{leb, ltb, eqb}
 use lib.ListN.{length, getD, drop, replicate}
 use Rattle.hex.specs.Digits.{digitOf}
-use Rattle.session.specs.declared.Record.{Record}
 use Rattle.sheet.specs.declared.Field.{Field}
 use Rattle.sheet.specs.declared.DigestField.{DigestField}
 use Rattle.sheet.specs.declared.Entry.{Entry}
@@ -69,7 +68,6 @@ withFigure value byte = value * 10 + (byte - 0x30)
 
 -- "at most 4294967295, with no leading zero except `0` itself": a number goes on with a figure unless it is 0 or would be too large
 unfoldable pub goesOn : ℕ → ℕ → Bool
-unfolding isFigure withFigure
 goesOn value byte = isFigure byte && leb 1 value && leb (withFigure value byte) 4294967295
 
 -- the rest of a number: as many figures as go on with it

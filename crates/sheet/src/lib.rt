@@ -441,24 +441,17 @@ fn filled(text: &[u8], at: usize, notes: u32) -> Session
     session
 }
 
-// A rank sheet: first its lines are judged, then the session is filled from them.
+// A rank sheet: its lines are judged, and then the session is filled from them; from none of them if one is bad.
 pub fn read(text: &[u8]) -> Sheet
     ensures { λ r. ⌜ r ≡ sheetOf (now (text .entry)) ⌝ }
 {
-    let j = judged(text);
-    if j.no != ACCEPTED {
-        let session = session::empty_session();
-        return Sheet {
-            no: j.no,
-            line: j.line,
-            session,
-        };
-    }
+    let v = judged(text);
     let h = header_line(text);
-    let session = filled(text, h.at, h.value);
+    let notes = if v.no == ACCEPTED { h.value } else { 0 };
+    let session = filled(text, h.at, notes);
     Sheet {
-        no: ACCEPTED,
-        line: 0,
+        no: v.no,
+        line: v.line,
         session,
     }
 }

@@ -3,7 +3,7 @@
 use Prim.Native.Nat.{_≤_, _-_}
 use mathlib.Core.Path.{_≡_, refl, sym, _∙_}
 use native.Mathlib.Omega.{arith}
-use lib.ListN.{length, take, length-set}
+use lib.ListN.{length, take}
 use Rattle.sheet.specs.Reading.{digestAt, digestFrom, digestIs}
 use Rattle.sheet.proofs.Digests.{found-before, no-high, no-low, one-byte, all-bytes}
 use borrow.Author.Needs.{needs}

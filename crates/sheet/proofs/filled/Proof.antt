@@ -1,6 +1,6 @@
 -- `sheet::filled` lists note after note. The invariant: the session of all lines is that of the lines that are left over the one reached.
 -- Assumes nothing.
-use Prim.Native.Nat.{_+_, _≤_, _<_, _-_}
+use Prim.Native.Nat.{_≤_, _<_, _-_}
 use mathlib.Core.Path.{_≡_, sym, _∙_}
 use native.Mathlib.Omega.{arith}
 use Rattle.session.specs.Slots.{emptySession}

@@ -1,5 +1,5 @@
 -- `sheet::header_line` reads the header. Assumes nothing.
-use mathlib.Core.Path.{sym, _∙_}
+use mathlib.Core.Path.{_∙_}
 use Rattle.sheet.proofs.Lines.{no-rank, no-first, no-edition, no-second, header-count}
 use borrow.Author.Needs.{needs}
 use Rattle.sheet.proofs.header_line.Statement.{statement}

@@ -4,7 +4,7 @@ use Prim.Native.Nat.{_+_, _≤_, _-_}
 use mathlib.Core.Path.{_≡_, sym, _∙_}
 use native.Mathlib.Omega.{arith}
 use Rattle.sheet.specs.Judging.{judged, judgedNotes}
-use Rattle.sheet.proofs.Verdicts.{most-notes, header-decides, notes-decide, line-decides, rest-decides, text-follows, nothing-follows}
+use Rattle.sheet.proofs.Verdicts.{most-notes, header-decides, none-yet, this-of-many, rest-of-many, text-after-all, end-after-all}
 use borrow.Author.Needs.{needs}
 use Rattle.sheet.proofs.judged.Statement.{statement}
 use Rattle.sheet.proofs.judged.Tie as tie
@@ -19,7 +19,7 @@ returns : tie.Need-returns Inv-loop μ-loop
 returns c = c .bad-line .ensures ∙ header-decides _ _ _ (c .before .before .before .header-line .ensures) (c .before .before .header-number .ensures) (c .before .if1 .taken)
 
 loop-holds : tie.Need-loop-holds Inv-loop μ-loop
-loop-holds c = (search needs, notes-decide _ _ _ (c .before .before .header-line .ensures) (c .before .header-number .ensures) (c .if1 .left))
+loop-holds c = (search needs, none-yet _ _ _ (c .before .before .header-line .ensures) (c .before .header-number .ensures) (c .if1 .left))
 
 add-bad-line : tie.Need-add-bad-line Inv-loop μ-loop
 add-bad-line c = omega (arith, most-notes _ _ (c .before .before .before .before .before .before .header-number .ensures) (c .before .before .before .before .before .if1 .left))
@@ -28,23 +28,23 @@ returns-2 : tie.Need-returns-2 Inv-loop μ-loop
 returns-2 c =
     c .bad-line2 .ensures
     ∙ sym (c .before .before .before .before .before .loop .inv .1
-    ∙ line-decides _ _ _ _ _ (c .before .before .before .before .loop-test .taken) _ (c .before .before .before .note-line .ensures) _ (c .before .before .note-number .ensures) (c .before .if2 .taken))
+    ∙ this-of-many _ _ _ _ _ (c .before .before .before .before .loop-test .taken) _ (c .before .before .before .note-line .ensures) _ (c .before .before .note-number .ensures) (c .before .if2 .taken))
 
 loop-again : tie.Need-loop-again Inv-loop μ-loop
 loop-again c = (
   search needs,
   c .before .before .before .before .before .loop .inv .1
-      ∙ rest-decides _ _ _ _ _ (c .before .before .before .before .loop-test .taken) _ (c .before .before .before .note-line .ensures) _ (c .before .before .note-number .ensures) (c .before .if2 .left),
+      ∙ rest-of-many _ _ _ _ _ (c .before .before .before .before .loop-test .taken) _ (c .before .before .before .note-line .ensures) _ (c .before .before .note-number .ensures) (c .before .if2 .left),
 )
 
 add-bad-line-2 : tie.Need-add-bad-line-2 Inv-loop μ-loop
 add-bad-line-2 c = omega (arith, most-notes _ _ (c .before .before .before .before .header-number .ensures) (c .before .before .before .if1 .left))
 
 returns-3 : tie.Need-returns-3 Inv-loop μ-loop
-returns-3 c = c .bad-line3 .ensures ∙ sym (c .before .before .before .loop .inv .1 ∙ text-follows _ _ _ _ _ (c .before .before .loop-test .left) (c .before .if3 .taken))
+returns-3 c = c .bad-line3 .ensures ∙ sym (c .before .before .before .loop .inv .1 ∙ text-after-all _ _ _ _ _ (c .before .before .loop-test .left) (c .before .if3 .taken))
 
 returns-4 : tie.Need-returns-4 Inv-loop μ-loop
-returns-4 c = c .bad-line4 .ensures ∙ sym (c .before .before .before .loop .inv .1 ∙ nothing-follows _ _ _ _ _ (c .before .before .loop-test .left) (c .before .if3 .left))
+returns-4 c = c .bad-line4 .ensures ∙ sym (c .before .before .before .loop .inv .1 ∙ end-after-all _ _ _ _ _ (c .before .before .loop-test .left) (c .before .if3 .left))
 
 pub judged-spec : {M : Type 1} → statement M
 judged-spec =

@@ -1,5 +1,5 @@
 -- `sheet::note_line` reads a note line. Assumes nothing.
-use mathlib.Core.Path.{sym, _∙_}
+use mathlib.Core.Path.{_∙_}
 use Rattle.sheet.specs.Reading.{lineIs}
 use Rattle.sheet.proofs.Lines.{no-note, no-length, no-start, no-end, no-digest, no-close, whole-line}
 use borrow.Author.Needs.{needs}

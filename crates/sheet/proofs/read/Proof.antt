@@ -1,14 +1,16 @@
 -- `sheet::read` judges the lines and fills the session from them. Assumes nothing.
-use Rattle.sheet.proofs.Listing.{sheet-refused, sheet-accepted}
+use mathlib.Core.Logic.{⊎-map}
+use Rattle.sheet.specs.Judging.{sheetIs}
+use Rattle.sheet.proofs.Listing.{sheet-session}
 use borrow.Author.Needs.{needs}
 use Rattle.sheet.proofs.read.Statement.{statement}
 use Rattle.sheet.proofs.read.Tie as tie
 
 returns : tie.Need-returns
-returns c = sheet-refused _ _ _ (c .before .before .before .judged .ensures) (c .before .if1 .taken) (c .empty-session .ensures)
-
-returns-2 : tie.Need-returns-2
-returns-2 c = sheet-accepted _ _ _ _ (c .before .before .before .before .judged .ensures) (c .before .before .if1 .left) (c .before .header-line .ensures) (c .filled .ensures)
+unfolding sheetIs
+returns c =
+    sheet-session _ _ _ _ _ (c .before .before .before .before .judged .ensures) (c .before .before .before .header-line .ensures) (⊎-map (λ w. (w .0 .taken, w .1)) (λ w. (w .0 .left, w .1)) (c .before .if1 .came))
+    (c .filled .ensures)
 
 pub read-spec : {M : Type 1} → statement M
-read-spec = tie.close (tie.spec (λ c κs. search needs) (λ c κs. search needs) returns (λ c κs. search needs) (λ c κs. search needs) returns-2)
+read-spec = tie.close (tie.spec (λ c κs. search needs) (λ c κs. search needs) (λ c κs. search needs) returns)

@@ -3,8 +3,8 @@
 use Prim.Native.Nat.{_≤_, _-_}
 use mathlib.Core.Path.{_≡_, refl, sym, _∙_}
 use native.Mathlib.Omega.{arith}
-use borrow.Author.Tests.{not-true, not-false}
 use lib.ListN.{length, drop}
+use Rattle.same.proofs.Tests.{refuted, confirmed}
 use Rattle.sheet.specs.Reading.{wordAt}
 use Rattle.sheet.proofs.Marks.{has-below, word-more, word-missing, word-done}
 use borrow.Author.Needs.{needs}
@@ -25,14 +25,14 @@ returns : tie.Need-returns Inv-loop μ-loop
 returns c =
     c .field-fault .ensures
     ∙ sym (c .before .before .before .before .before .loop .inv .1
-    ∙ word-missing _ _ _ _ _ (c .before .before .before .before .loop-test .taken) (sym (c .before .before .has-at .ensures) ∙ not-true _ (c .before .if1 .taken)))
+    ∙ word-missing _ _ _ _ _ (c .before .before .before .before .loop-test .taken) (refuted (c .before .before .has-at .ensures) (c .before .if1 .taken)))
 
 add-place : tie.Need-add-place Inv-loop μ-loop
-add-place c = omega (arith, has-below _ _ _ (sym (c .before .has-at .ensures) ∙ not-false _ (c .if1 .left)))
+add-place c = omega (arith, has-below _ _ _ (confirmed (c .before .has-at .ensures) (c .if1 .left)))
 
 loop-again : tie.Need-loop-again Inv-loop μ-loop
 loop-again c =
-    (search needs, c .before .before .before .before .loop .inv .1 ∙ word-more _ _ _ _ _ (c .before .before .before .loop-test .taken) (sym (c .before .has-at .ensures) ∙ not-false _ (c .if1 .left)))
+    (search needs, c .before .before .before .before .loop .inv .1 ∙ word-more _ _ _ _ _ (c .before .before .before .loop-test .taken) (confirmed (c .before .has-at .ensures) (c .if1 .left)))
 
 returns-2 : tie.Need-returns-2 Inv-loop μ-loop
 returns-2 c = c .field-is .ensures ∙ sym (c .before .before .loop .inv .1 ∙ word-done _ _ _ _ _ (c .before .loop-test .left))

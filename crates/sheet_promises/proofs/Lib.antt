@@ -1,0 +1,11 @@
+pub mod Standing
+pub mod Numbers
+pub mod Fields
+pub mod Digests
+pub mod Lines
+pub mod Rules
+pub mod Notes
+pub mod Sheets
+pub mod Listing
+pub mod Records
+pub mod Kept

@@ -1,0 +1,82 @@
+-- The rank sheet's grammar: document 01, "The rank sheet". No reader is in it: it says what a number, a digest, a line and a sheet are.
+use Prim.Native.Nat.{ℕ, _+_, _*_, _<_, _≤_}
+use mathlib.Core.Path.{_≡_}
+use mathlib.Core.List.{List, [], _∷_, _++_}
+use mathlib.Core.Bool.{true}
+use lib.ListN.{length}
+use Rattle.hex.specs.Digits.{IsDigit}
+use Rattle.session.specs.Rules.{lengthRule, loopRule}
+use Rattle.sheet.specs.declared.Entry.{Entry}
+
+-- "Numbers are decimal, .. with no leading zero except `0` itself": one figure, or a number other than 0 and one figure more
+pub data Decimal : List ℕ → ℕ → Type 0 where
+  figure : (d : ℕ) → d < 10 → Decimal ((0x30 + d) ∷ []) d
+  longer : {text : List ℕ} {value : ℕ} (d : ℕ) → Decimal text value → 1 ≤ value → d < 10 → Decimal (text ++ ((0x30 + d) ∷ [])) (value * 10 + d)
+
+-- "at most 4294967295"
+unfoldable pub IsNumber : List ℕ → ℕ → Type 0
+IsNumber text value = Decimal text value × (value ≤ 4294967295)
+
+-- bytes, each of two hex digits
+pub data Pairs : List ℕ → List ℕ → Type 0 where
+  no-pair : Pairs [] []
+  pair : {first second : ℕ} {text bytes : List ℕ} (high low : ℕ) → IsDigit first high → IsDigit second low → Pairs text bytes
+      → Pairs (first ∷ second ∷ text) ((high * 16 + low) ∷ bytes)
+
+-- "A digest is 64 characters of 0-9 and a-f"
+unfoldable pub IsDigest : List ℕ → List ℕ → Type 0
+IsDigest text bytes = Pairs text bytes × (length text ≡ 64)
+
+-- "fields parted by one tab (9)", lines "each ended by LF (10)": a number and the byte after it
+pub record IsField (text : List ℕ) (value ending : ℕ) : Type 0 where
+  pub number : List ℕ
+  pub is-number : IsNumber number value
+  pub whole : text ≡ number ++ (ending ∷ [])
+
+-- "Line 1: `RANK`, `1`, and the number of notes n"
+pub record IsHeader (text : List ℕ) (count : ℕ) : Type 0 where
+  pub field : List ℕ
+  pub is-count : IsField field count 10
+  pub whole : text ≡ 0x52 ∷ 0x41 ∷ 0x4e ∷ 0x4b ∷ 9 ∷ 0x31 ∷ 9 ∷ field
+
+-- "note, length in bytes, loop start, loop end (frames), digest"
+pub record IsLine (text : List ℕ) (e : Entry) : Type 0 where
+  pub note : List ℕ
+  pub bytes : List ℕ
+  pub start : List ℕ
+  pub end : List ℕ
+  pub digest : List ℕ
+  pub is-note : IsField note (e .note) 9
+  pub is-length : IsField bytes (e .line .length) 9
+  pub is-start : IsField start (e .line .start) 9
+  pub is-end : IsField end (e .line .end) 9
+  pub is-digest : IsDigest digest (e .line .digest)
+  pub whole : text ≡ note ++ (bytes ++ (start ++ (end ++ (digest ++ (10 ∷ [])))))
+
+-- lines, one after the other
+pub data Lines : List ℕ → List Entry → Type 0 where
+  no-line : Lines [] []
+  line : {text rest : List ℕ} {e : Entry} {es : List Entry} → IsLine text e → Lines rest es → Lines (text ++ rest) (e ∷ es)
+
+-- "Notes are 1..32, rising strictly", so above the note before or above 0; rules 3 and 4 are the session's
+pub record Obeys (last : ℕ) (e : Entry) : Type 0 where
+  pub rises : last < e .note
+  pub most : e .note ≤ 32
+  pub length-rule : lengthRule (e .line .length) ≡ true
+  pub loop-rule : loopRule (e .line .length) (e .line .start) (e .line .end) ≡ true
+
+-- every line obeys the rules, after a note
+pub data AllObey : ℕ → List Entry → Type 0 where
+  no-entry : {last : ℕ} → AllObey last []
+  entry : {last : ℕ} {e : Entry} {es : List Entry} → Obeys last e → AllObey (e .note) es → AllObey last (e ∷ es)
+
+-- a sheet: line 1, "n, 1..32", "then n lines", "Nothing follows"
+pub record IsSheet (text : List ℕ) (es : List Entry) : Type 0 where
+  pub header : List ℕ
+  pub lines : List ℕ
+  pub is-header : IsHeader header (length es)
+  pub least : 1 ≤ length es
+  pub most : length es ≤ 32
+  pub are-lines : Lines lines es
+  pub obeyed : AllObey 0 es
+  pub whole : text ≡ header ++ lines
