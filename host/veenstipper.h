@@ -22,20 +22,30 @@ extern "C" {
 /* ---- Refusal numbers -------------------------------------------------------------------------------------------------------------- */
 
 #define VS_ACCEPTED 0
-#define VS_FORM 1          /* sheet: form.                             Left: line number; session with no note listed                   */
-#define VS_COUNT_OR_NOTE 2 /* sheet: count or note.                    As 1                                                             */
-#define VS_LENGTH 3        /* sheet: length.                           As 1                                                             */
-#define VS_LOOP 4          /* sheet: loop.                             As 1                                                             */
-#define VS_UNLISTED 5      /* note 0, above 32, or unlisted.           Status 0, taken 0; session same                                  */
-#define VS_SLOT 6          /* slot not in order.                       Status 0, taken 0; session same                                  */
-#define VS_DECIDED 7       /* delivery to a decided note.              Status and taken as they stood; session same                     */
-#define VS_PAST_LENGTH 8   /* taken + piece exceeds length.            As they stood; nothing of the piece taken                        */
-#define VS_STATE 9         /* hash state not in order.                 State same; digest all zero, comparison no                       */
-#define VS_TOO_LONG 10     /* message total would pass 2^61 - 1.       State and buffers same; digest zero, comparison no, count 0      */
-#define VS_SIZE 11         /* tail buffer too short, or expected digest not 32 bytes. Buffers same; count 0, part empty, comparison no  */
-#define VS_NO_BLOCK 12     /* block number not below the block count.  Empty part                                                       */
-#define VS_OTHER_TAIL 13   /* tail buffer is not what vs_pad_write puts there for this message. Empty part                              */
-#define VS_NOT_PADDED 14   /* not a padded message.                    Empty part                                                       */
+/* Sheet: form; count or note; length; loop. Left: the line's number, and a session with no note listed. */
+#define VS_FORM 1
+#define VS_COUNT_OR_NOTE 2
+#define VS_BAD_LENGTH 3
+#define VS_BAD_LOOP 4
+/* Note 0, above 32, or unlisted; its slot not in order. Status 0, taken 0; session same. */
+#define VS_UNLISTED 5
+#define VS_SLOT_NOT_IN_ORDER 6
+/* A delivery to a decided note, an empty piece too. Status and taken as they stood; session same. */
+#define VS_DECIDED 7
+/* Taken and the piece exceed the length. As they stood; nothing of the piece taken. */
+#define VS_PAST_LENGTH 8
+/* Hash state not in order. State same; digest all zero, comparison no. */
+#define VS_STATE_NOT_IN_ORDER 9
+/* The message's total would pass 2^61 - 1. State and buffers same; digest all zero, comparison no, count 0, part empty. */
+#define VS_TOO_LONG 10
+/* Tail buffer shorter than needed, or expected digest not 32 bytes. Buffers same; count 0, part empty, comparison no. */
+#define VS_WRONG_SIZE 11
+/* Block number not below the block count. Empty part. */
+#define VS_NO_SUCH_BLOCK 12
+/* The tail buffer's first 64 or 128 bytes are not what vs_pad_write puts there for this message. Empty part. */
+#define VS_OTHER_TAIL 13
+/* Not a padded message. Empty part. */
+#define VS_NOT_PADDED 14
 
 /* ---- Statuses of a note ----------------------------------------------------------------------------------------------------------- */
 

@@ -1,4 +1,6 @@
 // What a C host links (host/veenstipper.h). Nothing here decides anything: each function passes on, and its contract is that of what it passes on to.
+mod in_place;
+
 ghost use mathlib.Core.Path.{_≡_};
 ghost use Rattle.sm3.specs.Standard.{folded};
 ghost use Rattle.padding.specs.Writing.{written, bufferAfter};

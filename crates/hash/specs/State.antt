@@ -14,10 +14,11 @@ use Rattle.hash.specs.declared.Hash.{Hash}
 unfoldable pub fresh : Hash
 fresh = record { words = IV; total = 0; tail = replicate 64 0 }
 
--- whether a state is the fresh one
+-- eight words as a list
 unfoldable pub inList : Words → List ℕ
 inList v = v .a ∷ v .b ∷ v .c ∷ v .d ∷ v .e ∷ v .f ∷ v .g ∷ v .h ∷ []
 
+-- whether a state is the fresh one: its words, its total and its tail
 unfoldable pub isFresh : Hash → Bool
 isFresh h = same (inList (h .words)) (inList IV) && eqb (h .total) 0 && same (h .tail) (replicate 64 0)
 

@@ -1,8 +1,8 @@
 // The hash state: what is known of a message of which a part has come.
 use refusal::ACCEPTED;
-use refusal::SIZE;
-use refusal::STATE;
+use refusal::STATE_NOT_IN_ORDER;
 use refusal::TOO_LONG;
+use refusal::WRONG_SIZE;
 use sm3::Words;
 use units::Bytes;
 
@@ -79,7 +79,7 @@ impl Hash {
         }
     }
 
-    // Whether nothing has been taken: a decided note's state has to be this one.
+    // Whether this is the fresh start: a decided note's state has to be.
     pub fn is_fresh(self) -> bool
         ensures { λ r. ⌜ r ≡ isFresh self ⌝ }
     {
@@ -108,7 +108,7 @@ impl Hash {
     {
         if !self.in_order() {
             return Updated {
-                no: STATE,
+                no: STATE_NOT_IN_ORDER,
                 state: self,
             };
         }
@@ -151,7 +151,7 @@ impl Hash {
         ensures { λ r. ⌜ r ≡ finish self ⌝ }
     {
         if !self.in_order() {
-            return no_digest(STATE);
+            return no_digest(STATE_NOT_IN_ORDER);
         }
         let tail = self.tail;
         let mut last = [0u8; 2 * Hash::BLOCK];
@@ -243,7 +243,7 @@ fn against(d: Digest, expected: &[u8]) -> Compared
     }
     if expected.len() != 32 {
         return Compared {
-            no: SIZE,
+            no: WRONG_SIZE,
             same: false,
         };
     }

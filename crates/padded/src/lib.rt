@@ -2,7 +2,7 @@
 use padding::block_count;
 use padding::tail_answer;
 use refusal::ACCEPTED;
-use refusal::NO_BLOCK;
+use refusal::NO_SUCH_BLOCK;
 use refusal::NOT_PADDED;
 use refusal::OTHER_TAIL;
 use units::Bits;
@@ -89,7 +89,7 @@ pub fn view_number(message: &[u8], buffer: &[u8], i: usize) -> u8
     if (i as u64) < block_count(m) {
         ACCEPTED
     } else {
-        NO_BLOCK
+        NO_SUCH_BLOCK
     }
 }
 

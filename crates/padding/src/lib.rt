@@ -1,7 +1,7 @@
 // Padding: its block count and the writer.
 use refusal::ACCEPTED;
-use refusal::SIZE;
 use refusal::TOO_LONG;
+use refusal::WRONG_SIZE;
 use units::Bytes;
 
 mod bytes;
@@ -46,7 +46,10 @@ pub fn tail_answer(m: Bytes, room: usize) -> Written
     }
     let count = tail_size(m);
     if room < count {
-        return Written { no: SIZE, count: 0 };
+        return Written {
+            no: WRONG_SIZE,
+            count: 0,
+        };
     }
     Written {
         no: ACCEPTED,

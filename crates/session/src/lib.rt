@@ -8,7 +8,7 @@ use hash::Hash;
 use refusal::ACCEPTED;
 use refusal::DECIDED;
 use refusal::PAST_LENGTH;
-use refusal::SLOT;
+use refusal::SLOT_NOT_IN_ORDER;
 use refusal::UNLISTED;
 use units::Bytes;
 
@@ -122,7 +122,7 @@ fn state_in_order(s: Slot) -> bool
     false
 }
 
-pub fn slot_in_order(s: Slot) -> bool
+fn slot_in_order(s: Slot) -> bool
     ensures { λ r. ⌜ r ≡ slotInOrder s ⌝ }
 {
     let line = s.line;
@@ -130,7 +130,7 @@ pub fn slot_in_order(s: Slot) -> bool
 }
 
 // Bytes taken.
-pub fn taken_of(s: Slot) -> u64
+fn taken_of(s: Slot) -> u64
     ensures { λ r. ⌜ r ≡ takenOf s ⌝ }
 {
     let status = s.status;
@@ -238,11 +238,11 @@ fn with_piece(s: Slot, piece: &[u8]) -> Slot
 }
 
 // A delivery to a listed slot.
-pub fn deliver_to(s: Slot, piece: &[u8]) -> Step
+fn deliver_to(s: Slot, piece: &[u8]) -> Step
     ensures { λ r. ⌜ r ≡ deliverTo s (now (piece .entry)) ⌝ }
 {
     if !slot_in_order(s) {
-        let answer = nothing(SLOT);
+        let answer = nothing(SLOT_NOT_IN_ORDER);
         return Step { answer, slot: s };
     }
     let status = s.status;
@@ -264,13 +264,13 @@ pub fn deliver_to(s: Slot, piece: &[u8]) -> Step
 }
 
 // Asking a listed slot.
-pub fn ask_of(s: Slot) -> Answer
+fn ask_of(s: Slot) -> Answer
     ensures { λ r. ⌜ r ≡ askOf s ⌝ }
 {
     if slot_in_order(s) {
         as_it_stands(ACCEPTED, s)
     } else {
-        nothing(SLOT)
+        nothing(SLOT_NOT_IN_ORDER)
     }
 }
 

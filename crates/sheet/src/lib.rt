@@ -5,10 +5,10 @@ ghost use Rattle.sheet.specs.Reading.{fieldIs, fieldFault, hasAt, markAt
 ghost use Rattle.sheet.specs.Judging.{countRule, noteRule, headerNumber, entryNumber, noteNumber, badLine, judged, entriesAt, listed, sheetOf};
 ghost use Rattle.session.specs.Slots.{emptySession};
 use refusal::ACCEPTED;
+use refusal::BAD_LENGTH;
+use refusal::BAD_LOOP;
 use refusal::COUNT_OR_NOTE;
 use refusal::FORM;
-use refusal::LENGTH;
-use refusal::LOOP;
 use session::Record;
 use session::Session;
 
@@ -100,7 +100,7 @@ fn field_fault(what: u8, place: usize) -> Field
 }
 
 // Whether the text has a given byte at a place.
-pub fn has_at(text: &[u8], at: usize, byte: u8) -> bool
+fn has_at(text: &[u8], at: usize, byte: u8) -> bool
     ensures { λ r. ⌜ r ≡ hasAt (now (text .entry)) at byte ⌝ }
 {
     if at < text.len() {
@@ -111,7 +111,7 @@ pub fn has_at(text: &[u8], at: usize, byte: u8) -> bool
 }
 
 // One given byte.
-pub fn mark_at(text: &[u8], at: usize, mark: u8, what: u8) -> Field
+fn mark_at(text: &[u8], at: usize, mark: u8, what: u8) -> Field
     ensures { λ r. ⌜ r ≡ markAt (now (text .entry)) at mark what ⌝ }
 {
     if has_at(text, at, mark) {
@@ -122,7 +122,7 @@ pub fn mark_at(text: &[u8], at: usize, mark: u8, what: u8) -> Field
 }
 
 // Given bytes, one after the other.
-pub fn word_at(text: &[u8], at: usize, letters: &[u8], what: u8) -> Field
+fn word_at(text: &[u8], at: usize, letters: &[u8], what: u8) -> Field
     ensures { λ r. ⌜ r ≡ wordAt (now (text .entry)) at (now (letters .entry)) what ⌝ }
 {
     let mut place = at;
@@ -366,10 +366,10 @@ pub fn entry_number(last: u32, e: Entry) -> u8
     }
     let line = e.line;
     if !session::length_rule(line.length) {
-        return LENGTH;
+        return BAD_LENGTH;
     }
     if !session::loop_rule(line.length, line.start, line.end) {
-        return LOOP;
+        return BAD_LOOP;
     }
     ACCEPTED
 }

@@ -1,0 +1,1 @@
+// Laws for proofs by hand: proofs/ has them, and there is no code.
