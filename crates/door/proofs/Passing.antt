@@ -1,7 +1,7 @@
 -- A function that passes its parameters on to another, and answers what that answers: whatever the other promises, it promises. Nothing is lent again: each reference is given to the callee for good.
 --     Storable         what is promised of a result says that it may be laid in a local
 --     hands-two, lends-one, lends-two      the call at given values, by the shape of the code: two parameters as they are; a `&mut` and one more; a `&mut` and two more
---     passes-on        so the function meets the contract of the one that it calls
+--     passes-on        so the function meets the contract of the one that it calls, at any `ensures` that the callee's gives
 -- Assumes `Given`; `passes-on` assumes nothing.
 use mathlib.Core.Path.{_≡_, refl, sym, subst}
 use Prim.Native.Nat.{ℕ}
@@ -13,7 +13,7 @@ use base.Logic.{guard, guardI, via, fst∗, snd∗, exI, exE}
 use prog.Wp.{Env, Closed}
 use prog.Model.{Model}
 use prog.Routine.{Env as Routines}
-use sound.WpLaws.{fmOf}
+use sound.WpLaws.{fmOf, WpFn-mono}
 use ghost.Atoms.{sem}
 use contract.Monad.{fact-use}
 use contract.Running.{Running, GhostRules, tablesOf}
@@ -25,8 +25,10 @@ use denote.Signature.{Signature, typeAt, typesAt}
 use denote.Triple.Entry.{Args, Vals, Res, alive}
 use denote.Triple.Call.{calls-from}
 use denote.Triple.Spec.{Spec, Back}
+use denote.Triple.Clauses.{Ended, Clauses, Lasts, AtExit, atExit, closing}
+use denote.Triple.Weaken.{weaken}
 use denote.Triple.Table.{entered}
-use Rattle.walks.proofs.Words.{URA, Val, vptr, SProp, ent, sep, id⊢, Heap, Calls, Loops, WpFn, Atoms, FmC, givenOf, tables, Lfts, Given, Item, raw, _$_, move, use1, look, init, stop, hop, from, load, and-then, no-more, addr, assigns, land, returns, alloc1, alloc0, params1, pass1, pass0, free0, atRet, Is, Triple, onEntry, tripleOf}
+use Rattle.walks.proofs.Words.{URA, Val, vptr, SProp, ent, sep, id⊢, Heap, Calls, Loops, WpFn, Atoms, FmC, givenOf, tables, Lfts, Given, Item, raw, _$_, move, use1, look, init, stop, hop, from, load, and-then, no-more, addr, assigns, land, returns, alloc1, alloc0, params1, pass1, pass0, free0, atRet, Is, Contract, Triple, onEntry, tripleOf}
 use Rattle.walks.proofs.Borrow.{gone}
 
 abbrev pub Storable : {M : Type 1} (𝓤 : URA M) (H : Heap 𝓤) → List Ty → (Val → SProp 𝓤) → Type 1
@@ -82,35 +84,58 @@ says-storable 𝓤 H A W S s y lawful u =
     (via 𝓤 (Back 𝓤 H A S (y .0) u r) (fst∗ 𝓤 (Back 𝓤 H A S (y .0) u r) (Ends r)) (via 𝓤 (sem 𝓤 H A (R .own r (u ∷ []))) (snd∗ 𝓤 (alive 𝓤 H A S (y .0 .0) (y .0 .1)) (sem 𝓤 H A (R .own r (u ∷ [])))) (shows 𝓤 H A R r (u ∷ []))))
     (λ is. via 𝓤 (tripleOf 𝓤 H A S s .post y u) (via 𝓤 _ (exI 𝓤 Post r) (W .laws .⇛-intro _)) (guardI 𝓤 (Typed (R .mir) (u ∷ [])) (tripleOf 𝓤 H A S s .post y u) (lawful .typed r (u ∷ []) is)))))
 
-module _ {M : Type 1} (𝓤 : URA M) (H : Heap 𝓤) (𝓜 : Model 𝓤 H) (𝓖 : GhostRules 𝓤 H) (𝓡 : Running 𝓤 H 𝓜) (γ : Routines) (S : Signature) (s : Spec 𝓤 S) (k f : Name) (e : Fn) where
+-- c with another `ensures`
+abbrev pub ensuring : {M : Type 1} (𝓤 : URA M) (T : Ended) (c : Clauses 𝓤 T) → ((κs : Lfts (T .signature .lifetimes)) (a : Args (T .signature) κs) → c κs a .ghost → Res (T .signature) κs → AtExit T κs → SProp 𝓤) → Clauses 𝓤 T
+ensuring 𝓤 T c E κs a = record { ghost = c κs a .ghost; requires = c κs a .requires; ensures = E κs a }
+
+module _ {M : Type 1} (𝓤 : URA M) (H : Heap 𝓤) (𝓜 : Model 𝓤 H) (𝓖 : GhostRules 𝓤 H) (𝓡 : Running 𝓤 H 𝓜) (γ : Routines) (k f : Name) (e : Fn) (T : Ended) (c : Clauses 𝓤 T)
+    (E : (κs : Lfts (T .signature .lifetimes)) (a : Args (T .signature) κs) → c κs a .ghost → Res (T .signature) κs → AtExit T κs → SProp 𝓤) where
+  abbrev S : Signature
+  S = T .signature
+
   abbrev Rs : Lfts (S .lifetimes) → List RattleType
   Rs κs = typesAt (S .params) κs
+
+  abbrev A : Atoms 𝓤
+  A = 𝓖 .A
 
   abbrev C : Calls 𝓤 H
   C = tables 𝓤 H 𝓜 𝓡 γ .C
 
-  abbrev Code : List Val → (Val → SProp 𝓤) → SProp 𝓤
-  Code = WpFn 𝓤 H C (tables 𝓤 H 𝓜 𝓡 γ .Λ) e
+  abbrev Λ : Loops 𝓤 H
+  Λ = tables 𝓤 H 𝓜 𝓡 γ .Λ
 
-  pub passes-on : Closed 𝓤 H C (tables 𝓤 H 𝓜 𝓡 γ .Λ) k e → Triple 𝓤 (C f) (tripleOf 𝓤 H (𝓖 .A) S s)
-      → (sp : (κs : Lfts (S .lifetimes)) → Spells (Rs κs)) → ((κs : Lfts (S .lifetimes)) → Tellss (Rs κs) (Ises (Rs κs)) (sp κs))
-      → ((κs : Lfts (S .lifetimes)) → Lawfuls 𝓤 H (𝓖 .A) (Rs κs)) → ((κs : Lfts (S .lifetimes)) → Lawful 𝓤 H (𝓖 .A) (typeAt (S .result) κs))
-      → (FmC 𝓤 H (givenOf 𝓤 H 𝓜 𝓖 .laws) C → (κs : Lfts (S .lifetimes)) (a : Args S κs) (Q : Val → SProp 𝓤) → Typed (mirs (Rs κs)) (flat (Rs κs) (valss (Rs κs) (sp κs) a)) → Storable 𝓤 H (typeAt (S .result) κs .mir) Q
-      → ent 𝓤 (C f (flat (Rs κs) (valss (Rs κs) (sp κs) a)) Q) (Code (flat (Rs κs) (valss (Rs κs) (sp κs) a)) Q))
-      → Triple 𝓤 (C k) (tripleOf 𝓤 H (𝓖 .A) S s)
-  unfolding tablesOf
-  passes-on is known sp tl lawful answer walk =
-      entered 𝓤 H (tripleOf 𝓤 H (𝓖 .A) S s) C (tables 𝓤 H 𝓜 𝓡 γ .Λ) k e is (λ y.
-      let κs : Lfts (S .lifetimes) = y .0 .0 in
-      let a : Args S κs = y .0 .3 in
-      let vss : Vals S κs = y .0 .4 in
-      let E : SProp 𝓤 = onEntry 𝓤 H (𝓖 .A) S κs (y .0 .1) a vss in
-      let Owned : SProp 𝓤 = sem 𝓤 H (𝓖 .A) (owns (Rs κs) a vss) in
-      let Q : Val → SProp 𝓤 = tripleOf 𝓤 H (𝓖 .A) S s .post y in
-      fact-use 𝓤 (Are (Rs κs) (Ises (Rs κs)) a vss)
-      (via 𝓤 E (fst∗ 𝓤 E (s κs a .requires (y .1))) (via 𝓤 Owned (snd∗ 𝓤 (alive 𝓤 H (𝓖 .A) S κs (y .0 .1)) Owned) (owns-show 𝓤 H (𝓖 .A) (Rs κs) (Ises (Rs κs)) (showss 𝓤 H (𝓖 .A) (Rs κs)) a vss)))
-      (λ are. let told : vss ≡ valss (Rs κs) (sp κs) a = all-tell (Rs κs) (Ises (Rs κs)) (sp κs) (tl κs) a vss are in
-      via 𝓤 (C f (flat (Rs κs) vss) Q) (known y) (subst (λ (us : Vals S κs). ent 𝓤 (C f (flat (Rs κs) us) Q) (Code (flat (Rs κs) us) Q)) (sym told)
-      (walk (fmOf 𝓤 H (givenOf 𝓤 H 𝓜 𝓖 .laws) (tablesOf 𝓤 H 𝓜 (tables 𝓤 H 𝓜 𝓡 γ))) κs a Q
-      (all-typed 𝓤 H (𝓖 .A) (Rs κs) (lawful κs) a (valss (Rs κs) (sp κs) a) (subst (Are (Rs κs) (Ises (Rs κs)) a) told are))
-      (says-storable 𝓤 H (𝓖 .A) (givenOf 𝓤 H 𝓜 𝓖) S s y (answer κs))))))
+  abbrev Callee : Contract 𝓤
+  Callee = tripleOf 𝓤 H A S (closing 𝓤 H A T c)
+
+  -- the function's code, by the callee's entry in the table
+  abbrev Walk : ((κs : Lfts (S .lifetimes)) → Spells (Rs κs)) → Type 2
+  Walk sp = FmC 𝓤 H (givenOf 𝓤 H 𝓜 𝓖 .laws) C → (κs : Lfts (S .lifetimes)) (a : Args S κs) (Q : Val → SProp 𝓤) → Typed (mirs (Rs κs)) (flat (Rs κs) (valss (Rs κs) (sp κs) a)) → Storable 𝓤 H (typeAt (S .result) κs .mir) Q
+      → ent 𝓤 (C f (flat (Rs κs) (valss (Rs κs) (sp κs) a)) Q) (WpFn 𝓤 H C Λ e (flat (Rs κs) (valss (Rs κs) (sp κs) a)) Q)
+
+  module _ (sp : (κs : Lfts (S .lifetimes)) → Spells (Rs κs)) (tl : (κs : Lfts (S .lifetimes)) → Tellss (Rs κs) (Ises (Rs κs)) (sp κs))
+      (lawful : (κs : Lfts (S .lifetimes)) → Lawfuls 𝓤 H A (Rs κs)) (answer : (κs : Lfts (S .lifetimes)) → Lawful 𝓤 H A (typeAt (S .result) κs)) where
+    meets : Triple 𝓤 (C f) Callee → Walk sp → Triple 𝓤 (WpFn 𝓤 H C Λ e) Callee
+    unfolding tablesOf
+    meets known walk y =
+        let κs : Lfts (S .lifetimes) = y .0 .0 in
+        let a : Args S κs = y .0 .3 in
+        let vss : Vals S κs = y .0 .4 in
+        let In : SProp 𝓤 = onEntry 𝓤 H A S κs (y .0 .1) a vss in
+        let Owned : SProp 𝓤 = sem 𝓤 H A (owns (Rs κs) a vss) in
+        let Q : Val → SProp 𝓤 = Callee .post y in
+        fact-use 𝓤 (Are (Rs κs) (Ises (Rs κs)) a vss)
+        (via 𝓤 In (fst∗ 𝓤 In (c κs a .requires (y .1))) (via 𝓤 Owned (snd∗ 𝓤 (alive 𝓤 H A S κs (y .0 .1)) Owned) (owns-show 𝓤 H A (Rs κs) (Ises (Rs κs)) (showss 𝓤 H A (Rs κs)) a vss)))
+        (λ are. let told : vss ≡ valss (Rs κs) (sp κs) a = all-tell (Rs κs) (Ises (Rs κs)) (sp κs) (tl κs) a vss are in
+        via 𝓤 (C f (flat (Rs κs) vss) Q) (known y) (subst (λ (us : Vals S κs). ent 𝓤 (C f (flat (Rs κs) us) Q) (WpFn 𝓤 H C Λ e (flat (Rs κs) us) Q)) (sym told)
+        (walk (fmOf 𝓤 H (givenOf 𝓤 H 𝓜 𝓖 .laws) (tablesOf 𝓤 H 𝓜 (tables 𝓤 H 𝓜 𝓡 γ))) κs a Q
+        (all-typed 𝓤 H A (Rs κs) (lawful κs) a (valss (Rs κs) (sp κs) a) (subst (Are (Rs κs) (Ises (Rs κs)) a) told are))
+        (says-storable 𝓤 H A (givenOf 𝓤 H 𝓜 𝓖) S (closing 𝓤 H A T c) y (answer κs)))))
+
+    pub passes-on : Closed 𝓤 H C Λ k e → Triple 𝓤 (C f) Callee
+        → ((κs : Lfts (S .lifetimes)) (a : Args S κs) (g : c κs a .ghost) (r : Res S κs) (ws : Lasts T κs a) → ent 𝓤 (c κs a .ensures g r (atExit T κs a ws)) (E κs a g r (atExit T κs a ws)))
+        → Walk sp → Triple 𝓤 (C k) (tripleOf 𝓤 H A S (closing 𝓤 H A T (ensuring 𝓤 T c E)))
+    unfolding tablesOf
+    passes-on is known says walk =
+        entered 𝓤 H (tripleOf 𝓤 H A S (closing 𝓤 H A T (ensuring 𝓤 T c E))) C Λ k e is
+        (weaken 𝓤 H A T (givenOf 𝓤 H 𝓜 𝓖) c E says (WpFn 𝓤 H C Λ e) (WpFn-mono 𝓤 H (givenOf 𝓤 H 𝓜 𝓖 .laws) (tablesOf 𝓤 H 𝓜 (tables 𝓤 H 𝓜 𝓡 γ)) e) (meets known walk))

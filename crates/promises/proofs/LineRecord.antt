@@ -1,15 +1,14 @@
 -- What demand 3 takes from a sheet: every note of its lines waits with a record that obeys the rules and has a digest of 32 bytes. Assumes nothing.
-use mathlib.Core.Path.{_≡_, refl, sym, ap, _∙_}
-use mathlib.Core.List.{List, [], _∷_}
+use mathlib.Core.Path.{_≡_, ap}
+use mathlib.Core.List.{List}
 use mathlib.Core.Logic.{_⊎_, inl, inr}
-use mathlib.Core.Bool.{Bool, true, false}
-use Prim.Native.Nat.{ℕ, suc, _+_, _*_, _≤_, _<_}
+use mathlib.Core.Bool.{true}
+use Prim.Native.Nat.{ℕ, _≤_}
 use native.Mathlib.Decide.{decLt}
 use native.Mathlib.Omega.{arith}
 use lib.ListN.{length}
-use Rattle.same.proofs.Tests.{both}
-use Rattle.session.specs.Rules.{lengthRule, loopRule, obeys}
-use Rattle.session.specs.Slots.{absent, emptySlot, waitingSlot}
+use Rattle.session.specs.Rules.{obeys}
+use Rattle.session.specs.Slots.{emptySlot, waitingSlot}
 use Rattle.session.specs.Deliver.{slotOf}
 use Rattle.session.specs.Promises.{Unlisted}
 use Rattle.session.specs.declared.Slot.{Slot}
@@ -17,8 +16,9 @@ use Rattle.session.specs.declared.Record.{Record}
 use Rattle.session.specs.declared.Session.{Session}
 use Rattle.sheet.specs.Judging.{sheetOf}
 use Rattle.sheet.specs.declared.Entry.{Entry}
-use Rattle.sheet_promises.specs.Grammar.{Pairs, no-pair, pair, IsDigest, IsLine, Lines, no-line, line, Obeys, AllObey, no-entry, entry, IsSheet}
+use Rattle.sheet_promises.specs.Grammar.{Obeys, AllObey, entry, IsSheet}
 use Rattle.sheet_promises.specs.Promises.{Among, first, after}
+use Rattle.sheet_promises.proofs.Records.{rules-of, digest-of}
 use Rattle.sheet_promises.proofs.Kept.{kept}
 
 -- a record that "obeys rules 3 and 4", with a digest of 32 bytes
@@ -32,20 +32,7 @@ pub record Lists (s : Session) (note : ℕ) (r : Record) : Type 0 where
   pub last : note ≤ 32
   pub slot : slotOf s note ≡ waitingSlot r
 
--- two characters a byte
-halves : {text bytes : List ℕ} → Pairs text bytes → length text ≡ length bytes * 2
-halves no-pair = refl
-halves (pair high low i j p) = let more = halves p in omega arith
-
-digest-32 : (text bytes : List ℕ) → IsDigest text bytes → length bytes ≡ 32
-unfolding IsDigest
-digest-32 text bytes d = let twice = halves (d .0) in let all = d .1 in omega arith
-
--- each entry of a sheet: its line, and what it obeys after the note before it
-lined : {text : List ℕ} {es : List Entry} → Lines text es → (e : Entry) → Among e es → length (e .line .digest) ≡ 32
-lined (line l ls) e first = digest-32 _ _ (l .is-digest)
-lined (line l ls) e (after a) = lined ls e a
-
+-- what each entry obeys, after the note before it
 obeyed : {last : ℕ} {es : List Entry} → AllObey last es → (e : Entry) → Among e es → (before : ℕ) × Obeys before e
 obeyed {last} (entry o os) e first = (last, o)
 obeyed (entry o os) e (after a) = obeyed os e a
@@ -53,10 +40,7 @@ obeyed (entry o os) e (after a) = obeyed os e a
 module _ (text : List ℕ) (es : List Entry) (sheet : IsSheet text es) where
   module _ (e : Entry) (among : Among e es) where
     pub line-record : LineRecord (e .line)
-    unfolding obeys
-    line-record =
-        let o = obeyed (sheet .obeyed) e among .1 in
-        record { rules = both _ _ (o .length-rule) (o .loop-rule); digest = lined (sheet .are-lines) e among }
+    line-record = record { rules = rules-of 0 es (sheet .obeyed) e among; digest = digest-of (sheet .lines) es (sheet .are-lines) e among }
 
     pub listed-there : Lists (sheetOf text .session) (e .note) (e .line)
     listed-there =
