@@ -1,7 +1,6 @@
 -- What a sheet's verdict and its lines make of a session is the sheet's answer. Assumes nothing.
 use Prim.Native.Nat.{ℕ}
-use mathlib.Core.Path.{_≡_, refl, sym, ap, _∙_}
-use mathlib.Core.Bool.{true, false, cond}
+use mathlib.Core.Path.{_≡_, refl, ap, _∙_}
 use mathlib.Core.List.{List}
 use mathlib.Core.Logic.{_⊎_, ⊎-map}
 use borrow.Author.Tests.{eqb-true, eqb-false}

@@ -1,6 +1,6 @@
 -- Two pieces, one after the other, make the digest of the joined message. Assumes nothing.
 use Prim.Native.Nat.{ℕ, _+_, _≤_, _<_}
-use mathlib.Core.Path.{_≡_, refl, sym, ap, _∙_}
+use mathlib.Core.Path.{_≡_, refl, sym, _∙_}
 use mathlib.Core.Bool.{true, false}
 use mathlib.Core.Logic.{inl, inr}
 use mathlib.Core.List.{List, _++_}
@@ -8,7 +8,7 @@ use native.Mathlib.Omega.{arith}
 use native.Mathlib.Nat.{zero-add}
 use lib.Dec.{eqb}
 use lib.ListN.{length, length-append}
-use Rattle.refusal.specs.Table.{accepted, too-long}
+use Rattle.refusal.specs.Table.{accepted}
 use Rattle.padding.specs.Padding.{longest}
 use Rattle.hash.specs.State.{fresh, inOrder}
 use Rattle.hash.specs.Update.{taken, update}

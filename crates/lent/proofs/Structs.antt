@@ -1,5 +1,5 @@
 -- The structs of plain data that the walks meet, each with its laws, and what is known of their parts.
-use Prim.Native.Nat.{ℕ, _<_, _^_}
+use Prim.Native.Nat.{_<_, _^_}
 use mathlib.Core.Path.{_≡_}
 use lib.ListN.{length}
 use denote.Struct.Laws as LL

@@ -1,5 +1,5 @@
 -- The structs of plain data that the walks of this crate meet, each with its laws, and what is known of their parts.
-use Prim.Native.Nat.{ℕ, _<_, _^_}
+use Prim.Native.Nat.{_<_, _^_}
 use denote.Struct.Laws as LL
 use Rattle.walks.proofs.Borrow.{Data, IsData}
 use Rattle.sheet.proofs.Verdict as G

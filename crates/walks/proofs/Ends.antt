@@ -16,12 +16,12 @@ use ghost.Atoms.{Atoms, sem}
 use sound.WpLaws.{FmC, fmOf, WpFn-mono}
 use contract.Lifetimes.{Lfts, Shares, AllOutlive}
 use contract.Running.{Running, GhostRules, givenOf, tables, tablesOf}
-use types.Kit.{Given, Item, ‵, ⋆, pop, push, ⊢++}
+use types.Kit.{Given, Item, ‵, ⋆, pop, ⊢++}
 use denote.RattleType.{Denots, Valss, flat}
 use denote.Laws.{Are, Ises, Spells, valss, Tellss}
 use denote.Signature.{Slot, typeAt, typesAt}
 use denote.Triple.Statement.{Triple}
-use denote.Triple.Entry.{Args, Vals, Res, alive, onEntry}
+use denote.Triple.Entry.{Args, Res, alive, onEntry}
 use denote.Triple.End.{Kepts, Fins}
 use denote.Triple.Spec.{tripleOf}
 use denote.Triple.Table.{entered}

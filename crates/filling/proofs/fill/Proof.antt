@@ -1,10 +1,10 @@
 -- `filling::fill` meets its contract: a walk of its MIR, by hand. The borrow is opened before the loop, each turn puts one line's slot to its place, and it is closed after the loop.
 -- All that the proof knows of `listing_at` is that it meets its contract.
-use mathlib.Core.Path.{_≡_, refl, sym, ap, _∙_, subst}
+use mathlib.Core.Path.{_≡_, refl, sym, _∙_, subst}
 use Prim.Native.Nat.{ℕ, suc, _+_, _-_, _*_, _<_, _^_}
 use native.Mathlib.Omega.{arith}
 use native.Mathlib.Nat.{zero-add}
-use mathlib.Core.Bool.{true, false}
+use mathlib.Core.Bool.{false}
 use mathlib.Core.List.{[], _∷_, List}
 use lib.Dec.{ltb}
 use lib.ListN.{length, set}

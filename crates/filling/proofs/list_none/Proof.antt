@@ -1,6 +1,6 @@
 -- `filling::list_none` meets its contract: a walk of its MIR, by hand. The borrow is opened before the loop, each turn puts the slot of no note to one place, and it is closed after the loop.
 -- All that the proof knows of `empty_slot` is that it meets its contract.
-use mathlib.Core.Path.{_≡_, refl, sym, ap, _∙_, subst}
+use mathlib.Core.Path.{_≡_, refl, subst}
 use Prim.Native.Nat.{ℕ, _+_, _-_, _*_, _<_, _^_}
 use native.Mathlib.Omega.{arith}
 use mathlib.Core.List.{[], _∷_, List}

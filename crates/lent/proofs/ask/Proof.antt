@@ -1,6 +1,6 @@
 -- `lent::ask` meets its contract: a walk of its MIR, by hand. The note's slot is copied out of the session behind the `&`, and `ask_at` is called on it.
 -- All that the proof knows of `place_of` and of `ask_at` is that each meets its contract.
-use mathlib.Core.Path.{_≡_, refl, ap, _∙_}
+use mathlib.Core.Path.{_≡_, refl, _∙_}
 use Prim.Native.Nat.{ℕ, _<_, _^_}
 use mathlib.Core.List.{[], _∷_, List}
 use lib.ListN.{getD}

@@ -1,13 +1,13 @@
 -- `lent::digest_of_two` meets its contract: a walk of its MIR, by hand. A state in a local is lent by `&mut` to two calls of `update`, and comes back from each at the state that `update` left behind the reference.
 -- All that the proof knows of `fresh`, of `update` and of `ended` is that each meets its contract.
-use mathlib.Core.Path.{_≡_, refl, ap, _∙_}
-use Prim.Native.Nat.{ℕ, _<_, _^_}
+use mathlib.Core.Path.{_≡_, refl}
+use Prim.Native.Nat.{ℕ}
 use mathlib.Core.List.{[], _∷_, List, _++_}
 use lib.ListN.{length}
 use contract.Running.{tablesOf}
 use denote.Struct.Laws as LL
-use Rattle.walks.proofs.Words.{URA, fullShare, named, w8, Val, vint, vptr, SProp, ent, emp, id⊢, Lft, Share, Fml, Memory, Routine, Heap, Calls, Loops, WpFn, Atoms, FmC, Lfts, Shares, Fun, factI, givenOf, tables, Given, ‵, raw, _⊛_, _$_, _∵_, !, qed, by, move, keep, drop, use1, split, fsplit, look, store, init, stop, from, load, of-opd, and-then, no-more, addr, assigns, land, returns, enter, alloc1, alloc0, params1, pass1, pass0, free0, Is, uint-makes, uint-tells, u8, RefT, plain, sliceVal, ShrSlice, slice-vals, shr-slice-tells, shr-slice-lawful, shr-slice-copy, owned, Contract, Triple, onEntry, tripleOf, cited, Stays, stay-none-slice, walkOf, goes-none-slice, yes}
-use Rattle.walks.proofs.Borrow.{rowOf, machine, typed, made, out, into, gone}
+use Rattle.walks.proofs.Words.{URA, fullShare, named, w8, Val, vint, vptr, SProp, ent, emp, id⊢, Fml, Memory, Routine, Heap, Calls, Loops, WpFn, Atoms, FmC, Lfts, Shares, Fun, factI, givenOf, tables, Given, ‵, raw, _⊛_, _$_, _∵_, !, qed, by, move, keep, drop, use1, split, fsplit, look, store, init, stop, from, load, of-opd, and-then, no-more, addr, assigns, land, returns, enter, alloc1, alloc0, params1, pass1, pass0, free0, Is, uint-makes, uint-tells, u8, RefT, plain, sliceVal, ShrSlice, slice-vals, shr-slice-tells, shr-slice-lawful, shr-slice-copy, owned, Contract, Triple, onEntry, tripleOf, cited, Stays, stay-none-slice, walkOf, goes-none-slice, yes}
+use Rattle.walks.proofs.Borrow.{machine, typed, made, out, into, gone}
 use Rattle.walks.proofs.Calls.{arrives, asks, asks-last}
 use Rattle.walks.proofs.Ends.{ends, stands}
 use Rattle.walks.proofs.Lend.{lentAs, lends, regains}

@@ -1,7 +1,6 @@
 -- `reader::header` meets its contract: a walk of its MIR, by hand. The reader is taken apart, `header_line` is called on its text, and a reader of the same text is made that stands past the header.
 -- All that the proof knows of `header_line` is that it meets its contract.
 use mathlib.Core.Path.{_≡_, refl}
-use Prim.Native.Nat.{ℕ}
 use mathlib.Core.List.{List, [], _∷_}
 use contract.Running.{tablesOf}
 use denote.Struct.Laws as LL

@@ -11,13 +11,12 @@ use borrow.Author.Tests.{eqb-true, eqb-false}
 use prog.Wp.{afterTurn}
 use contract.Running.{tablesOf}
 use denote.Struct.Laws as LL
-use Rattle.walks.proofs.Words.{URA, fullShare, named, erased, w32, w64, Val, vint, SProp, ent, emp, id⊢, Fml, fat, Memory, Routine, Heap, Tables, WpFn, Atoms, fmOf, Lfts, Shares, Fun, factI, givenOf, tables, Given, Item, ‵, raw, _⊛_, _$_, _∵_, !, qed, by, move, keep, drop, use1, split, join, atRet, look, store, init, forget, stop, fld, from, load, lit, of-opd, and-then, no-more, bin, assigns, assigns-last, land, first, blocks, exec, returns, enter, alloc1, alloc0, params1, pass1, pass0, free0, whole, sub, look-in, Is, uint-makes, uint-tells, u8, usize, RefT, NamedLft, plain, namedLft, ShrSlice, slice-vals, shr-slice-tells, shr-slice-lawful, shr-slice-copy, owned, Contract, Triple, onEntry, tripleOf, cited, Stays, stay-none-slice, walkOf, goes-none-slice, yes}
+use Rattle.walks.proofs.Words.{URA, fullShare, named, erased, w64, Val, vint, SProp, ent, emp, id⊢, Fml, fat, Memory, Routine, Heap, Tables, WpFn, Atoms, fmOf, Lfts, Shares, Fun, factI, givenOf, tables, Given, Item, ‵, raw, _⊛_, _$_, _∵_, !, qed, by, move, keep, drop, use1, split, join, atRet, look, store, init, forget, stop, fld, from, load, lit, of-opd, and-then, no-more, bin, assigns, assigns-last, land, first, blocks, exec, returns, enter, alloc1, alloc0, params1, pass1, pass0, free0, whole, sub, look-in, Is, uint-makes, uint-tells, u8, usize, RefT, NamedLft, plain, namedLft, ShrSlice, slice-vals, shr-slice-tells, shr-slice-lawful, shr-slice-copy, owned, Contract, Triple, onEntry, tripleOf, cited, Stays, stay-none-slice, walkOf, goes-none-slice, yes}
 use Rattle.walks.proofs.Borrow.{mirOf, machine, IsData, typed, made, gone, unused}
 use Rattle.walks.proofs.Fields.{field-out}
 use Rattle.walks.proofs.Calls.{arrives, asks}
 use Rattle.walks.proofs.Loops.{after, envOf, Some, held, hold, turning, once-more, tests}
 use Rattle.walks.proofs.Ends.{ends, stands}
-use Rattle.sheet.specs.Reading.{noteLine, headerLine}
 use Rattle.sheet.specs.Judging.{judged}
 use Rattle.sheet.specs.declared.Verdict.{Verdict}
 use Rattle.reader.specs.Reader.{beginOf, moved, headerRead, lineRead}

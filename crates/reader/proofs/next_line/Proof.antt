@@ -1,7 +1,6 @@
 -- `reader::next_line` meets its contract: a walk of its MIR, by hand. The reader is taken apart, `note_line` is called on its text and place, and a reader of the same text is made that stands past the line.
 -- All that the proof knows of `note_line` is that it meets its contract.
 use mathlib.Core.Path.{_≡_, refl}
-use Prim.Native.Nat.{ℕ}
 use mathlib.Core.List.{List, [], _∷_}
 use contract.Running.{tablesOf}
 use denote.Struct.Laws as LL

@@ -1,10 +1,9 @@
 -- `reader::place` meets its contract: a walk of its MIR, by hand. The place is read out of the reader.
 use mathlib.Core.Path.{refl}
-use Prim.Native.Nat.{ℕ}
 use mathlib.Core.List.{List, [], _∷_}
 use contract.Running.{tablesOf}
 use denote.Struct.Laws as LL
-use Rattle.walks.proofs.Words.{URA, named, w64, Val, vint, SProp, ent, emp, Memory, Routine, Heap, Calls, Loops, WpFn, Atoms, Lfts, Shares, Fun, factI, givenOf, tables, Given, raw, _$_, _∵_, !, qed, by, move, keep, look, init, stop, fld, from, load, of-opd, assigns, returns, enter, alloc1, alloc0, params1, pass1, pass0, free0, whole, sub, look-in, Is, uint-makes, usize, NamedLft, namedLft, owned, onEntry, Stays, stay-none, walkOf, goes-none, yes}
+use Rattle.walks.proofs.Words.{URA, w64, Val, vint, SProp, ent, emp, Memory, Routine, Heap, Calls, Loops, WpFn, Atoms, Lfts, Shares, Fun, factI, givenOf, tables, Given, raw, _$_, _∵_, !, qed, by, move, keep, look, init, stop, fld, from, load, of-opd, assigns, returns, enter, alloc1, alloc0, params1, pass1, pass0, free0, whole, sub, look-in, Is, uint-makes, usize, NamedLft, namedLft, owned, onEntry, Stays, stay-none, walkOf, goes-none, yes}
 use Rattle.walks.proofs.Borrow.{gone}
 use Rattle.walks.proofs.Calls.{arrives}
 use Rattle.walks.proofs.Ends.{ends, stands}

@@ -6,7 +6,7 @@ use mathlib.Core.List.{[], _∷_, List}
 use lib.ListN.{length}
 use contract.Running.{tablesOf}
 use denote.Struct.Laws as LL
-use Rattle.walks.proofs.Words.{URA, fullShare, named, w8, Val, vint, vptr, SProp, ent, emp, id⊢, Lft, Share, Fml, Memory, Routine, Heap, Calls, Loops, WpFn, Atoms, FmC, Lfts, Shares, Fun, factI, givenOf, tables, Given, ‵, raw, _⊛_, _$_, _∵_, !, qed, by, move, keep, drop, use1, split, look, store-in, init, stop, hop, fld, from, load, of-opd, and-then, no-more, assigns, land, returns, enter, alloc1, alloc0, params1, pass1, pass0, free0, whole, sub, look-in, Is, uint-makes, u8, RefT, ptr-vals, mut-tells, plain, sliceVal, ShrSlice, slice-vals, shr-slice-tells, shr-slice-lawful, shr-slice-copy, owned, Contract, Triple, onEntry, tripleOf, cited, Stays, stay-ref, stay-none-slice, walkOf, goes-ref, goes-none-slice, yes}
+use Rattle.walks.proofs.Words.{URA, fullShare, named, w8, Val, vint, vptr, SProp, ent, emp, id⊢, Fml, Memory, Routine, Heap, Calls, Loops, WpFn, Atoms, FmC, Lfts, Shares, Fun, factI, givenOf, tables, Given, ‵, raw, _⊛_, _$_, _∵_, !, qed, by, move, keep, drop, use1, split, look, store-in, init, stop, hop, fld, from, load, of-opd, and-then, no-more, assigns, land, returns, enter, alloc1, alloc0, params1, pass1, pass0, free0, whole, sub, look-in, Is, uint-makes, u8, RefT, ptr-vals, mut-tells, plain, sliceVal, ShrSlice, slice-vals, shr-slice-tells, shr-slice-lawful, shr-slice-copy, owned, Contract, Triple, onEntry, tripleOf, cited, Stays, stay-ref, stay-none-slice, walkOf, goes-ref, goes-none-slice, yes}
 use Rattle.walks.proofs.Borrow.{rowOf, machine, typed, made, opened, closed, out, into, gone}
 use Rattle.walks.proofs.Calls.{arrives, asks}
 use Rattle.walks.proofs.Ends.{ends, stands}
