@@ -14,12 +14,26 @@ typedef struct {
 
 static int nibble(int c) { return c >= '0' && c <= '9' ? c - '0' : c >= 'a' && c <= 'f' ? c - 'a' + 10 : -1; }
 
-/* As many hex digits as `text` begins with, two a byte; answers where it stopped. */
+/* As many hex digits as `text` begins with, two a byte, at most MOST_BYTES of them; answers where it stopped. */
 static const char *hex(const char *text, uint8_t *out, size_t *count) {
     size_t n = 0;
-    for (; nibble(text[0]) >= 0 && nibble(text[1]) >= 0; text += 2)
+    for (; n < MOST_BYTES && nibble(text[0]) >= 0 && nibble(text[1]) >= 0; text += 2)
         out[n++] = (uint8_t)(nibble(text[0]) * 16 + nibble(text[1]));
     *count = n;
+    return text;
+}
+
+/* A number of at most 2^64 - 1, in figures alone; answers where it stopped, or a text that ends no value. */
+static const char *read_number(const char *text, uint64_t *n) {
+    *n = 0;
+    if (*text < '0' || *text > '9')
+        return "?";
+    for (; *text >= '0' && *text <= '9'; text++) {
+        uint64_t figure = (uint64_t)(*text - '0');
+        if (*n > (UINT64_MAX - figure) / 10)
+            return "?";
+        *n = *n * 10 + figure;
+    }
     return text;
 }
 
@@ -29,18 +43,13 @@ static bool read_slice(const char *text, slice *s) {
     if (text[0] == '-')
         return text[1] == 0;
     if (text[0] == '@') {
-        char *end;
-        s->length = (size_t)strtoull(text + 1, &end, 10);
+        uint64_t length;
+        const char *end = read_number(text + 1, &length);
+        s->length = length;
         s->at = (const uint8_t *)VS_BLOCK; /* no memory of this program's */
         return *end == 0;
     }
     return strlen(text) <= 2 * MOST_BYTES && *hex(text, s->bytes, &s->length) == 0;
-}
-
-static const char *read_number(const char *text, uint64_t *n) {
-    char *end;
-    *n = strtoull(text, &end, 10);
-    return end;
 }
 
 static uint32_t word_at(const uint8_t *b) { return (uint32_t)b[0] << 24 | (uint32_t)b[1] << 16 | (uint32_t)b[2] << 8 | b[3]; }
@@ -68,7 +77,7 @@ static const char *read_field(const char *text, uint32_t *n) {
     uint64_t wide;
     text = read_number(text, &wide);
     *n = (uint32_t)wide;
-    return *text == ':' ? text + 1 : 0;
+    return *text == ':' && wide <= UINT32_MAX ? text + 1 : 0;
 }
 
 /* LENGTH:START:END:DIGEST:WORDS:TOTAL:TAIL:STATUS */
@@ -86,7 +95,7 @@ static const char *read_slot(const char *text, vs_slot *s) {
         return 0;
     text = read_number(text, &status);
     s->status = (uint8_t)status;
-    return text;
+    return status <= UINT8_MAX ? text : 0;
 }
 
 static void empty_session(vs_session *s) {
@@ -205,7 +214,7 @@ static bool message_call(const char *name, char **f, int fields) {
     } else if (strcmp(name, "compare_message") == 0 && fields == 3) {
         vs_compared c = vs_compare_message(first.at, first.length, second.at, second.length);
         printf("%u\t%u", c.no, c.same);
-    } else if (strcmp(name, "pad_write") == 0 && fields == 3) {
+    } else if (strcmp(name, "pad_write") == 0 && fields == 3 && second.at == second.bytes) {
         vs_written w = vs_pad_write(first.at, first.length, second.bytes, second.length);
         printf("%u\t%llu\t", w.no, (unsigned long long)w.count);
         put_hex(second.bytes, second.length);

@@ -2,11 +2,20 @@
  *
  * Every function may be handed any bytes, any state and any session at all: it ends, reads and writes only inside what it is lent, and
  * refuses bad input by a number (VS_ACCEPTED is 0). The library keeps nothing between calls, allocates nothing and calls nothing but
- * memcpy, memset and memmove, which the host supplies.
+ * memcpy and memset, which the host supplies. It is built for x86-64 Linux (System V); docs/FRAMES.md has the stack that each call takes.
  *
- * Memory: every pointer is the host's and is lent for the call alone. A slice is a pointer and a number of bytes; of an empty slice the
- * pointer may be anything but must not be null. Slices lent to be read may overlap each other; what a function writes (a `*` without
- * const) must not overlap anything else lent to that call. States and sessions are plain values: copy them, store them, compare them.
+ * What the host sees to:
+ * - A slice is a pointer and a number of bytes. The pointer is never null, not even of an empty slice.
+ * - Every pointer is the host's and is lent for the call alone. Nothing lent may change during the call, by an interrupt, a DMA or another thread.
+ * - What a function writes (a pointer without const) overlaps nothing else that is lent to that call; what is only read may overlap.
+ * - A vs_hash * or vs_session * is aligned as its type (8 bytes). Slices need no alignment.
+ * - Calls on different states and sessions may run at once. A call writes a state or session that it is lent without const even when it
+ *   refuses: it writes what was there.
+ *
+ * States and sessions are plain values: copy them and store them. Compare them field by field, since the padding between fields is free. A
+ * session of all zero bytes lists no note. A stored state is in order when total is at most 2^61 - 1 and the tail bytes behind the first
+ * total % 64 are zero; a stored slot is in order when its length is even, 2 to 4294967294, its loop obeys start < end <= length / 2, and its
+ * state is in order with total below length (waiting) or the fresh one (open, shut). What is not in order is refused (6, 9), never used.
  */
 #ifndef VEENSTIPPER_H
 #define VEENSTIPPER_H
@@ -91,7 +100,7 @@ typedef struct {
     size_t count;
 } vs_written;
 
-/* Where a block lies: which 0 nowhere (refused), 1 in the message, 2 in the tail buffer; length 64 bytes from offset. */
+/* Where a block lies: which 1 in the message, 2 in the tail buffer, 64 bytes from offset; refused: which, offset and length 0. */
 typedef struct {
     uint8_t which;
     size_t offset;
@@ -138,17 +147,29 @@ typedef struct {
     uint32_t line;
 } vs_judged;
 
-/* The sizes that the library was compiled with: a host whose compiler lays these out otherwise does not compile. */
-_Static_assert(sizeof(vs_hash) == 104, "vs_hash");
-_Static_assert(sizeof(vs_updated) == 112, "vs_updated");
-_Static_assert(sizeof(vs_digest) == 33, "vs_digest");
-_Static_assert(sizeof(vs_compared) == 2, "vs_compared");
-_Static_assert(sizeof(vs_record) == 44, "vs_record");
-_Static_assert(sizeof(vs_slot) == 160, "vs_slot");
-_Static_assert(sizeof(vs_session) == 5120, "vs_session");
-_Static_assert(sizeof(vs_answer) == 16, "vs_answer");
-_Static_assert(sizeof(vs_delivered) == 5136, "vs_delivered");
-_Static_assert(sizeof(vs_sheet) == 5128, "vs_sheet");
+/* The layout that the library was compiled with: a host whose compiler lays these out otherwise does not compile. */
+#ifdef __cplusplus
+#define VS_LAYOUT(fact) static_assert(fact, #fact)
+#else
+#define VS_LAYOUT(fact) _Static_assert(fact, #fact)
+#endif
+VS_LAYOUT(sizeof(size_t) == 8);
+VS_LAYOUT(sizeof(vs_words) == 32);
+VS_LAYOUT(sizeof(vs_hash) == 104);
+VS_LAYOUT(sizeof(vs_updated) == 112);
+VS_LAYOUT(sizeof(vs_digest) == 33);
+VS_LAYOUT(sizeof(vs_compared) == 2);
+VS_LAYOUT(sizeof(vs_written) == 16);
+VS_LAYOUT(sizeof(vs_part) == 24);
+VS_LAYOUT(sizeof(vs_record) == 44);
+VS_LAYOUT(offsetof(vs_slot, state) == 48);
+VS_LAYOUT(offsetof(vs_slot, status) == 152);
+VS_LAYOUT(sizeof(vs_slot) == 160);
+VS_LAYOUT(sizeof(vs_session) == 5120);
+VS_LAYOUT(sizeof(vs_answer) == 16);
+VS_LAYOUT(sizeof(vs_delivered) == 5136);
+VS_LAYOUT(sizeof(vs_sheet) == 5128);
+VS_LAYOUT(sizeof(vs_judged) == 8);
 
 /* ---- SM3 -------------------------------------------------------------------------------------------------------------------------- */
 
@@ -170,7 +191,7 @@ vs_digest vs_finish(vs_hash state);
 /* The digest of a whole message. Refusal 10: all zero. */
 vs_digest vs_digest_of(const uint8_t *message, size_t message_length);
 
-/* Whether the digest is the expected one; all 32 bytes are looked at whatever is found. Refusals 10 (9 of a state), 11: no. */
+/* Whether the digest is the expected one. The code looks at all 32 bytes whatever it finds. Refusals 10 (9 of a state), 11: no. */
 vs_compared vs_compare_message(const uint8_t *message, size_t message_length, const uint8_t *expected, size_t expected_length);
 vs_compared vs_compare_state(vs_hash state, const uint8_t *expected, size_t expected_length);
 
@@ -193,7 +214,7 @@ size_t vs_remove_part(const uint8_t *bytes, size_t length);
 /* The session of a sheet: every listed note waiting. Refusals 1 to 4 with the line; then no note is listed. An accepted sheet's line is 0. */
 vs_sheet vs_sheet_read(const uint8_t *text, size_t text_length);
 
-/* The same into a lent session, whatever it held: needs far less stack. */
+/* The same into a lent session, whatever it held: under 1 KB of stack where the call by value takes over 5 KB. */
 vs_judged vs_sheet_read_in_place(vs_session *session, const uint8_t *text, size_t text_length);
 
 /* A piece of a note's bytes. Refusals 5, 6, 7, 8: the session as it was. A note is open (VS_OPEN) from the moment its last byte is in and

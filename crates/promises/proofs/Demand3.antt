@@ -25,7 +25,7 @@ use Rattle.promises.specs.Deliveries.{Delivery, after, acceptedBytes}
 use Rattle.promises.specs.Demand3.{verdict, Promised, Demand3}
 use Rattle.promises.proofs.LineRecord.{LineRecord, Lists, line-record, listed-there, not-there}
 use Rattle.promises.proofs.OneNote.{view, slotOf-view, asks, own, unchanged, parts}
-use Rattle.promises.proofs.Reached.{reached, reached-nothing, takes, runs-past, after-decided, stands-waiting, stands-decided, asked}
+use Rattle.promises.proofs.Reached.{reached, reached-line, reached-fresh, reached-nothing, takes, runs-past, after-decided, stands-waiting, stands-decided, asked}
 use Rattle.promises.proofs.Accepted.{Reaches, is-listed-reached, grows}
 use Rattle.promises.proofs.Unlisted.{unlisted-stays}
 
@@ -98,6 +98,9 @@ module _ (r : Record) (line : LineRecord r) (note : ℕ) (low : 1 ≤ note) (hig
     accepted-slot : length b < r .length → (p : List ℕ) → length b + length p ≤ r .length → Reaches r (b ++ p) (view (deliver s note p .session) note)
     accepted-slot w p l = (moved s b h p ∙ rw (takes r line b p w l), rw (length-append b p) l)
 
+    stands-there : slotOf s note ≡ reached r b
+    stands-there = slotOf-view s note low ∙ h .0
+
     promised : Promised s note r b
     unfolding asItStands
     promised =
@@ -108,6 +111,8 @@ module _ (r : Record) (line : LineRecord r) (note : ℕ) (low : 1 ≤ note) (hig
           answers = λ w p l. accepted-answer w p l ∙ sym (asked-is (deliver s note p .session) (b ++ p) (accepted-slot w p l));
           refuses = λ w p l. refused s b h p past-length (runs-past r line b p w l) ∙ rw (stands-waiting r line b past-length w);
           decides = asks-decided;
+          keeps = ap (λ (x : Slot). x .line) stands-there ∙ reached-line r b;
+          leaves = λ e. ap (λ (x : Slot). x .state) stands-there ∙ reached-fresh r b (omega arith);
           opens = λ e. rw (asks-decided e) (opens-by r b);
           shuts = λ e. rw (asks-decided e) (shuts-by r b);
           stays = λ e later. asked-is (after s later) b (still s b h e later) ∙ sym (asked-is s b h);

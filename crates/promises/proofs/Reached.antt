@@ -42,6 +42,19 @@ decidedBy r b = record { line = r; state = fresh; status = verdict r b }
 pub reached : Record → List ℕ → Slot
 reached r b = cond (ltb (length b) (r .length)) (waitsWith r b) (decidedBy r b)
 
+-- its record is the line's, waiting or decided; decided, its state is fresh
+pub reached-line : (r : Record) (b : List ℕ) → reached r b .line ≡ r
+unfolding reached waitsWith decidedBy
+reached-line r b = go (ltb (length b) (r .length))
+  where
+    go : (t : Bool) → cond t (waitsWith r b) (decidedBy r b) .line ≡ r
+    go true = refl
+    go false = refl
+
+pub reached-fresh : (r : Record) (b : List ℕ) → r .length ≤ length b → reached r b .state ≡ fresh
+unfolding reached decidedBy
+reached-fresh r b h = rw (le-ltb (length b) (r .length) h)
+
 -- what holds of both statuses that a verdict may be holds of it: it is open or shut, and neither is waiting
 either : (f : ℕ → Bool) (c t : Bool) (x y : ℕ) → f x ≡ c → f y ≡ c → f (cond t x y) ≡ c
 either f c true x y h k = h

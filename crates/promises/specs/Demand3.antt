@@ -10,8 +10,9 @@ use lib.ListN.{length}
 use Rattle.refusal.specs.Table.{accepted, unlisted, decided, past-length}
 use Rattle.same.specs.Same.{same}
 use Rattle.hash.specs.Sm3.{sm3}
+use Rattle.hash.specs.State.{fresh}
 use Rattle.session.specs.Slots.{waiting, opened, shut}
-use Rattle.session.specs.Deliver.{nothing, deliver, ask}
+use Rattle.session.specs.Deliver.{nothing, slotOf, deliver, ask}
 use Rattle.session.specs.Promises.{Unlisted}
 use Rattle.session.specs.declared.Record.{Record}
 use Rattle.session.specs.declared.Session.{Session}
@@ -42,6 +43,9 @@ pub record Promised (s : Session) (note : ℕ) (r : Record) (bytes : List ℕ) :
   pub decides : length bytes ≡ r .length → ask s note ≡ record { no = accepted; status = verdict r bytes; taken = length bytes }
   pub opens : length bytes ≡ r .length → (ask s note .status ≡ opened) ↔ (sm3 bytes ≡ r .digest)
   pub shuts : length bytes ≡ r .length → (ask s note .status ≡ shut) ↔ (sm3 bytes ≡ r .digest → ⊥)
+  -- it keeps "its own line's record", whatever was delivered; "A decided slot holds a fresh state"
+  pub keeps : slotOf s note .line ≡ r
+  pub leaves : length bytes ≡ r .length → slotOf s note .state ≡ fresh
   -- "and it stays so": whatever is delivered later; its own deliveries are refused (7), the empty piece too
   pub stays : length bytes ≡ r .length → (later : List Delivery) → ask (after s later) note ≡ ask s note
   pub closed : length bytes ≡ r .length → (later : List Delivery) (piece : List ℕ)
