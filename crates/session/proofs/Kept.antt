@@ -1,5 +1,6 @@
 -- Every promise of the crate, kept. Assumes nothing.
 use Rattle.session.specs.Promises.{Promises}
+use Rattle.session.proofs.Records.{record-kept}
 use Rattle.session.proofs.Rules.{length-rule-is, loop-rule-is}
 use Rattle.session.proofs.Slots.{slot-in-order-is}
 use Rattle.session.proofs.Rows.{by-table, ask-by-table, refused-leaves, empty-leaves, accepted-counts}
@@ -16,5 +17,6 @@ kept =
       refused = refused-leaves;
       emptyPiece = empty-leaves;
       counted = accepted-counts;
+      recordKept = record-kept;
       apart = are-apart;
     }

@@ -7,4 +7,5 @@ pub mod Places
 pub mod Listed
 pub mod Rows
 pub mod Apart
+pub mod Records
 pub mod Kept

@@ -9,7 +9,7 @@ use Rattle.refusal.specs.Table.{accepted, unlisted, slot-not-in-order, decided,
 use Rattle.hash.specs.State.{fresh, inOrder}
 use Rattle.session.specs.Rules.{lengthRule, loopRule, obeys}
 use Rattle.session.specs.Slots.{absent, waiting, opened, shut, slotInOrder, takenOf}
-use Rattle.session.specs.Deliver.{nothing, asItStands, withPiece, slotOf, onSlot, deliver, ask}
+use Rattle.session.specs.Deliver.{nothing, asItStands, withPiece, deliverTo, slotOf, onSlot, deliver, ask}
 use Rattle.session.specs.declared.Slot.{Slot}
 use Rattle.session.specs.declared.Session.{Session}
 use Rattle.session.specs.declared.Answer.{Answer}
@@ -83,5 +83,7 @@ pub record Promises : Type 0 where
   -- bytes taken are those taken before and the piece, decided or not
   pub counted : (s : Session) (note : ℕ) (piece : List ℕ) → deliver s note piece .answer .no ≡ accepted
       → deliver s note piece .answer .taken ≡ takenOf (slotOf s note) + length piece
+  -- a note keeps its record, loop and digest, whatever is delivered to it
+  pub recordKept : (s : Slot) (piece : List ℕ) → deliverTo s piece .slot .line ≡ s .line
   -- "A delivery looks at its own slot only", and so does any other operation on one note
   pub apart : (s : Session) (m n : ℕ) (f g : Slot → Step) → (m ≡ n → ⊥) → Apart s m n f g
