@@ -26,7 +26,7 @@ static void load_note(unsigned note) {
 int main(int argc, char **argv) {
     static const char *const words[] = {"none", "waiting", "open", "shut"};
     if (argc > 1 && chdir(argv[1]) != 0) {
-        printf("no folder %s\n", argv[1]);
+        fputs("example: no such folder\n", stderr);
         return 1;
     }
     FILE *f = fopen("rank.txt", "rb");

@@ -6,7 +6,7 @@
 #include <stddef.h>
 
 typedef struct file FILE;
-extern FILE *stdin, *stdout;
+extern FILE *stdin, *stdout, *stderr;
 char *fgets(char *line, int size, FILE *from);
 int fputs(const char *text, FILE *to);
 int fputc(int c, FILE *to);

@@ -12,7 +12,9 @@ need() { # need TOOL..: one clear line where a tool is missing
 }
 
 need rt
-KIT=$(dirname "$(dirname "$(rt doc)")")
+unset CDPATH
+KIT=$(rt doc) || exit 1
+KIT=$(dirname "$(dirname "$KIT")")
 TOOLCHAIN=$KIT/on/$(uname -m)/toolchain
 
 # the words that run an x86-64 program here: the kit's loader, on another machine under the kit's emulator

@@ -70,8 +70,8 @@ impl Trial<'_, '_> {
         let ours = program::load(&path);
         self.report.compared(content.kind);
         self.count_answers(&ours, &theirs);
-        // Ended by a signal, it did not do its work, whatever it printed.
-        if theirs.stdout != ours || theirs.status.code().is_none() {
+        // Ended by a signal or with a failure, it did not do its work, whatever it printed.
+        if theirs.stdout != ours || !theirs.status.success() {
             return self.keep(&path, content.kind, &ours, &theirs);
         }
         self.seek_slips(&path, content.kind, &ours);
