@@ -33,8 +33,8 @@ static uint32_t update(size_t size, size_t n) {
 static uint32_t deliver(bool in_place, size_t size, size_t n) {
     vs_slot *slot = &session.slots[4];
     session.slots[4].state = vs_fresh();
-    slot->line.length = 1u << 30;
-    slot->line.end = 1;
+    slot->sample.length = 1u << 30;
+    slot->sample.end = 1;
     slot->status = VS_WAITING;
     for (size_t i = 0; i < n; i++)
         if (in_place)

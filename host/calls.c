@@ -85,12 +85,12 @@ static const char *read_slot(const char *text, vs_slot *s) {
     uint8_t digest[MOST_BYTES];
     size_t n;
     uint64_t status;
-    if (!(text = read_field(text, &s->line.length)) || !(text = read_field(text, &s->line.start)) || !(text = read_field(text, &s->line.end)))
+    if (!(text = read_field(text, &s->sample.length)) || !(text = read_field(text, &s->sample.start)) || !(text = read_field(text, &s->sample.end)))
         return 0;
     text = hex(text, digest, &n);
     if (n != VS_DIGEST || *text++ != ':')
         return 0;
-    memcpy(s->line.digest, digest, VS_DIGEST);
+    memcpy(s->sample.digest, digest, VS_DIGEST);
     if (!(text = read_state(text, &s->state)) || *text++ != ':')
         return 0;
     text = read_number(text, &status);
@@ -142,7 +142,7 @@ static bool same_state(const vs_hash *a, const vs_hash *b) {
 static bool is_empty(const vs_slot *s) {
     static const uint8_t zeros[VS_DIGEST];
     vs_hash fresh = vs_fresh();
-    return s->status == 0 && s->line.length == 0 && s->line.start == 0 && s->line.end == 0 && memcmp(s->line.digest, zeros, VS_DIGEST) == 0 &&
+    return s->status == 0 && s->sample.length == 0 && s->sample.start == 0 && s->sample.end == 0 && memcmp(s->sample.digest, zeros, VS_DIGEST) == 0 &&
            same_state(&s->state, &fresh);
 }
 
@@ -152,8 +152,8 @@ static void put_session(const vs_session *s) {
         const vs_slot *slot = &s->slots[i];
         if (is_empty(slot))
             continue;
-        printf("%s%d=%u:%u:%u:", any ? "," : "", i + 1, slot->line.length, slot->line.start, slot->line.end);
-        put_hex(slot->line.digest, VS_DIGEST);
+        printf("%s%d=%u:%u:%u:", any ? "," : "", i + 1, slot->sample.length, slot->sample.start, slot->sample.end);
+        put_hex(slot->sample.digest, VS_DIGEST);
         fputc(':', stdout);
         put_state(&slot->state);
         printf(":%u", slot->status);

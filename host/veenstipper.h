@@ -114,7 +114,7 @@ typedef struct {
 } vs_record;
 
 typedef struct {
-    vs_record line;
+    vs_record sample;
     vs_hash state;
     uint8_t status;
 } vs_slot;

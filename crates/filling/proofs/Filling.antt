@@ -9,10 +9,6 @@ use lib.Seq.{take-suc-set, take-all}
 use Rattle.session.specs.Slots.{emptySlot, emptySession}
 use Rattle.session.specs.declared.Slot.{Slot}
 use Rattle.session.specs.declared.Session.{Session}
-use Rattle.session.proofs.Places.{place-lt}
-use Rattle.sheet.specs.Judging.{entriesAt, listed}
-use Rattle.filling.specs.Filling.{listing}
-use Rattle.filling.specs.declared.Listing.{Listing}
 
 replicate-more : {A : Type 0} (n : ℕ) (x : A) → replicate n x ++ (x ∷ []) ≡ replicate (suc n) x
 replicate-more zero x = refl
@@ -30,17 +26,3 @@ one-more i s l e =
 pub all-empty : (s : Session) → Emptied 32 s → s ≡ emptySession
 unfolding emptySession
 all-empty s e = ap (λ (l : List Slot). record { slots = l }) (sym (take-all 32 (s .slots) (omega arith)) ∙ e .1)
-
--- the line at a place, listed before the others
-module _ (text : List ℕ) (at : ℕ) (r : Listing) (e : r ≡ listing text at) where
-  pub listed-next : (s : Session) (notes : ℕ) → listed s (entriesAt (suc notes) text at) ≡ listed (record { slots = set (s .slots) (r .place) (r .slot) }) (entriesAt notes text (r .next))
-  unfolding listed entriesAt listing
-  listed-next s notes = rw e
-
-  pub listing-lt : r .place < 32
-  unfolding listing
-  listing-lt = rw e (place-lt _)
-
-pub listed-none : (s : Session) (text : List ℕ) (at : ℕ) → listed s (entriesAt 0 text at) ≡ s
-unfolding listed entriesAt
-listed-none s text at = refl

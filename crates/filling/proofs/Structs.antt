@@ -5,12 +5,12 @@ use Rattle.walks.proofs.Borrow.{Data, IsData}
 use Rattle.sheet.proofs.Verdict as G
 use Rattle.sheet.proofs.Verdict.Laws as G′
 use Rattle.lent.proofs.Structs.{Place}
-use Rattle.filling.specs.declared.Listing.{Listing}
-use Rattle.filling.specs.declared.Start.{Start}
-use Rattle.filling.proofs.Listing as L
-use Rattle.filling.proofs.Listing.Laws as L′
-use Rattle.filling.proofs.Start as S
-use Rattle.filling.proofs.Start.Laws as S′
+use Rattle.sheet.specs.declared.Listing.{Listing}
+use Rattle.sheet.specs.declared.Start.{Start}
+use Rattle.sheet.proofs.Listing as L
+use Rattle.sheet.proofs.Listing.Laws as L′
+use Rattle.sheet.proofs.Start as S
+use Rattle.sheet.proofs.Start.Laws as S′
 
 abbrev pub Judged : Data
 Judged = record { type = G.the-type; laws = G′.the-laws; plain = G′.the-plain; copies = G′.the-copy }

@@ -23,7 +23,7 @@ use borrow.Struct.Items.{cut-records}
 use Rattle.walks.proofs.Borrow.{rowOf, cell, IsData, out, into}
 use Rattle.walks.proofs.Elements.{spot, element, same}
 use Rattle.session.specs.Slots.{emptySlot}
-use Rattle.session.specs.Places.{placeOf}
+use Rattle.session.specs.Deliver.{placeOf}
 use Rattle.session.proofs.Places.{place-lt}
 use Rattle.session.specs.declared.Slot.{Slot}
 use Rattle.session.specs.declared.Session.{Session}

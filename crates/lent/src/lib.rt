@@ -26,7 +26,6 @@ pub fn update(h: &mut Hash, piece: &[u8]) -> u8
 }
 
 // What a card driver keeps: one hash state.
-#[repr(C)]
 pub struct Card {
     pub state: Hash,
 }

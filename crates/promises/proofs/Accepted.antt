@@ -8,9 +8,9 @@ use lib.ListN.{length, length-append}
 use borrow.Author.Tests.{ltb-true, ltb-false, leb-true, leb-false}
 use Rattle.refusal.specs.Table.{accepted}
 use Rattle.session.specs.Deliver.{asItStands, deliverTo, deliver}
-use Rattle.session.specs.Places.{isListedAt, atPlace}
+use Rattle.session.specs.Deliver.{isListed, onSlot}
 use Rattle.session.proofs.Places.{at-listed}
-use Rattle.session.specs.declared.Record.{Record}
+use Rattle.rules.specs.declared.Record.{Record}
 use Rattle.session.specs.declared.Slot.{Slot}
 use Rattle.session.specs.declared.Step.{Step}
 use Rattle.session.specs.declared.Session.{Session}
@@ -55,7 +55,7 @@ module _ (r : Record) (line : LineRecord r) where
       go false w = rw (after-decided r line b p (ltb-false _ _ w), append-nil b) (refl, h)
 
   module _ (note : ℕ) (low : 1 ≤ note) (high : note ≤ 32) where
-    pub is-listed-reached : (b : List ℕ) → isListedAt (reached r b) note ≡ true
+    pub is-listed-reached : (b : List ℕ) → isListed (reached r b) note ≡ true
     is-listed-reached b = is-listed (reached r b) note low high (not-absent r line b)
 
     one-delivery : (s : Session) (b : List ℕ) (d : Delivery) → Reaches r b (view s note)
@@ -63,7 +63,7 @@ module _ (r : Record) (line : LineRecord r) where
     unfolding gained
     one-delivery s b d h = go (eqb (d .note) note) refl
       where
-        here : atPlace (view s note) note (does d) ≡ deliverTo (reached r b) (d .piece)
+        here : onSlot (view s note) note (does d) ≡ deliverTo (reached r b) (d .piece)
         here = rw (h .0) (at-listed (reached r b) note (does d) (is-listed-reached b) ∙ does-deliver d (reached r b))
 
         go : (t : Bool) → eqb (d .note) note ≡ t → Reaches r (b ++ addedBytes note s d) (view (deliver s (d .note) (d .piece) .session) note)

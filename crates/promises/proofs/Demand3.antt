@@ -13,23 +13,23 @@ use Rattle.same.specs.Same.{same}
 use Rattle.same.proofs.Same.{same-equal, equal-same, differ-same, same-differ}
 use Rattle.hash.specs.Sm3.{sm3}
 use Rattle.session.specs.Slots.{absent, waiting, opened, shut, emptySlot, waitingSlot}
-use Rattle.session.specs.Deliver.{asItStands, deliverTo, slotOf, deliver, ask}
-use Rattle.session.specs.Places.{atPlace}
+use Rattle.rules.proofs.Rules.{is-note-is}
+use Rattle.session.specs.Deliver.{asItStands, deliverTo, onSlot, slotOf, deliver, ask}
 use Rattle.session.proofs.Places.{at-listed, ask-at-listed}
-use Rattle.session.specs.declared.Record.{Record}
+use Rattle.rules.specs.declared.Record.{Record}
 use Rattle.session.specs.declared.Slot.{Slot}
 use Rattle.session.specs.declared.Answer.{Answer}
 use Rattle.session.specs.declared.Session.{Session}
 use Rattle.sheet.specs.Judging.{sheetOf}
 use Rattle.promises.specs.Deliveries.{Delivery, after, acceptedBytes}
-use Rattle.promises.specs.Demand3.{verdict, Promised, Demand3}
+use Rattle.promises.specs.Demand3.{decidedStatus, Promised, Demand3}
 use Rattle.promises.proofs.LineRecord.{LineRecord, Lists, line-record, listed-there, not-there}
 use Rattle.promises.proofs.OneNote.{view, slotOf-view, asks, own, unchanged, parts}
 use Rattle.promises.proofs.Reached.{reached, reached-line, reached-fresh, reached-nothing, takes, runs-past, after-decided, stands-waiting, stands-decided, asked}
 use Rattle.promises.proofs.Accepted.{Reaches, is-listed-reached, grows}
 use Rattle.promises.proofs.Unlisted.{unlisted-stays}
 
--- the verdict's two sides
+-- the two sides of a decision
 is-opened : (t : Bool) → cond t opened shut ≡ opened → t ≡ true
 is-opened true e = refl
 is-opened false e = absurd (omega arith)
@@ -39,12 +39,12 @@ is-shut true e = absurd (omega arith)
 is-shut false e = refl
 
 module _ (r : Record) (b : List ℕ) where
-  opens-by : (verdict r b ≡ opened) ↔ (sm3 b ≡ r .digest)
-  unfolding verdict
+  opens-by : (decidedStatus r b ≡ opened) ↔ (sm3 b ≡ r .digest)
+  unfolding decidedStatus
   opens-by = (λ e. same-equal _ _ (is-opened (same (sm3 b) (r .digest)) e), λ e. rw (equal-same (sm3 b) (r .digest) e))
 
-  shuts-by : (verdict r b ≡ shut) ↔ (sm3 b ≡ r .digest → ⊥)
-  unfolding verdict
+  shuts-by : (decidedStatus r b ≡ shut) ↔ (sm3 b ≡ r .digest → ⊥)
+  unfolding decidedStatus
   shuts-by = (λ e. same-differ _ _ (is-shut (same (sm3 b) (r .digest)) e), λ f. rw (differ-same (sm3 b) (r .digest) f))
 
 module _ (r : Record) (line : LineRecord r) (note : ℕ) (low : 1 ≤ note) (high : note ≤ 32) where
@@ -53,7 +53,7 @@ module _ (r : Record) (line : LineRecord r) (note : ℕ) (low : 1 ≤ note) (hig
     asked-is = asks s note ∙ rw (h .0) (ask-at-listed (reached r b) note (is-listed-reached r line note low high b) ∙ asked r line b)
 
     module _ (p : List ℕ) where
-      here : atPlace (view s note) note (λ slot. deliverTo slot p) ≡ deliverTo (reached r b) p
+      here : onSlot (view s note) note (λ slot. deliverTo slot p) ≡ deliverTo (reached r b) p
       here = rw (h .0) (at-listed (reached r b) note (λ slot. deliverTo slot p) (is-listed-reached r line note low high b))
 
       answered : deliver s note p .answer ≡ deliverTo (reached r b) p .answer
@@ -79,7 +79,7 @@ module _ (r : Record) (line : LineRecord r) (note : ℕ) (low : 1 ≤ note) (hig
         go (x ∷ c) g = absurd (omega (arith, g .1, length-append b (x ∷ c)))
 
   module _ (s : Session) (b : List ℕ) (h : Reaches r b (view s note)) where
-    asks-decided : length b ≡ r .length → ask s note ≡ record { no = accepted; status = verdict r b; taken = length b }
+    asks-decided : length b ≡ r .length → ask s note ≡ record { no = accepted; status = decidedStatus r b; taken = length b }
     asks-decided e = asked-is s b h ∙ stands-decided r line b accepted (omega arith) ∙ rw e
 
     fits-in : length b < r .length → (p : List ℕ) → deliver s note p .answer .no ≡ accepted → length b + length p ≤ r .length
@@ -99,7 +99,7 @@ module _ (r : Record) (line : LineRecord r) (note : ℕ) (low : 1 ≤ note) (hig
     accepted-slot w p l = (moved s b h p ∙ rw (takes r line b p w l), rw (length-append b p) l)
 
     stands-there : slotOf s note ≡ reached r b
-    stands-there = slotOf-view s note low ∙ h .0
+    stands-there = slotOf-view s note (is-note-is note .1 (low, high)) ∙ h .0
 
     promised : Promised s note r b
     unfolding asItStands
@@ -111,7 +111,7 @@ module _ (r : Record) (line : LineRecord r) (note : ℕ) (low : 1 ≤ note) (hig
           answers = λ w p l. accepted-answer w p l ∙ sym (asked-is (deliver s note p .session) (b ++ p) (accepted-slot w p l));
           refuses = λ w p l. refused s b h p past-length (runs-past r line b p w l) ∙ rw (stands-waiting r line b past-length w);
           decides = asks-decided;
-          keeps = ap (λ (x : Slot). x .line) stands-there ∙ reached-line r b;
+          keeps = ap (λ (x : Slot). x .sample) stands-there ∙ reached-line r b;
           leaves = λ e. ap (λ (x : Slot). x .state) stands-there ∙ reached-fresh r b (omega arith);
           opens = λ e. rw (asks-decided e) (opens-by r b);
           shuts = λ e. rw (asks-decided e) (shuts-by r b);
@@ -125,7 +125,7 @@ module _ (r : Record) (line : LineRecord r) (note : ℕ) (low : 1 ≤ note) (hig
 -- a listed note for which nothing was accepted yet, and then any deliveries
 module _ (s : Session) (note : ℕ) (r : Record) (line : LineRecord r) (lists : Lists s note r) where
   at-start : Reaches r [] (view s note)
-  at-start = (sym (slotOf-view s note (lists .first)) ∙ lists .slot ∙ sym (reached-nothing r line), omega arith)
+  at-start = (sym (slotOf-view s note (is-note-is note .1 (lists .first, lists .last))) ∙ lists .slot ∙ sym (reached-nothing r line), omega arith)
 
   from-start : (ds : List Delivery) → Promised (after s ds) note r (acceptedBytes note s ds)
   from-start ds =
@@ -137,7 +137,7 @@ demand3 =
     record {
       listed =
           λ text es sheet e among.
-          from-start (sheetOf text .session) (e .note) (e .line) (line-record text es sheet e among) (listed-there text es sheet e among);
+          from-start (sheetOf text .session) (e .note) (e .sample) (line-record text es sheet e among) (listed-there text es sheet e among);
       others = λ text es sheet note none. unlisted-stays (sheetOf text .session) note (not-there text es sheet note none);
       unlisted = unlisted-stays;
     }

@@ -7,17 +7,18 @@ use Prim.Native.Nat.{ℕ, _≤_}
 use native.Mathlib.Decide.{decLt}
 use native.Mathlib.Omega.{arith}
 use lib.ListN.{length}
-use Rattle.session.specs.Rules.{obeys}
+use Rattle.rules.specs.Rules.{obeys}
+use Rattle.rules.proofs.Rules.{note-rule-is}
 use Rattle.session.specs.Slots.{emptySlot, waitingSlot}
 use Rattle.session.specs.Deliver.{slotOf}
 use Rattle.session.specs.Promises.{Unlisted}
 use Rattle.session.specs.declared.Slot.{Slot}
-use Rattle.session.specs.declared.Record.{Record}
+use Rattle.rules.specs.declared.Record.{Record}
 use Rattle.session.specs.declared.Session.{Session}
 use Rattle.sheet.specs.Judging.{sheetOf}
-use Rattle.sheet.specs.declared.Entry.{Entry}
+use Rattle.lines.specs.declared.Entry.{Entry}
 use Rattle.sheet_promises.specs.Grammar.{Obeys, AllObey, entry, IsSheet}
-use Rattle.sheet_promises.specs.Promises.{Among, first, after}
+use Rattle.sheet_promises.specs.Promises.{Among, first, further}
 use Rattle.sheet_promises.proofs.Records.{rules-of, digest-of}
 use Rattle.sheet_promises.proofs.Kept.{kept}
 
@@ -35,17 +36,18 @@ pub record Lists (s : Session) (note : ℕ) (r : Record) : Type 0 where
 -- what each entry obeys, after the note before it
 obeyed : {last : ℕ} {es : List Entry} → AllObey last es → (e : Entry) → Among e es → (before : ℕ) × Obeys before e
 obeyed {last} (entry o os) e first = (last, o)
-obeyed (entry o os) e (after a) = obeyed os e a
+obeyed (entry o os) e (further a) = obeyed os e a
 
 module _ (text : List ℕ) (es : List Entry) (sheet : IsSheet text es) where
   module _ (e : Entry) (among : Among e es) where
-    pub line-record : LineRecord (e .line)
+    pub line-record : LineRecord (e .sample)
     line-record = record { rules = rules-of 0 es (sheet .obeyed) e among; digest = digest-of (sheet .lines) es (sheet .are-lines) e among }
 
-    pub listed-there : Lists (sheetOf text .session) (e .note) (e .line)
+    pub listed-there : Lists (sheetOf text .session) (e .note) (e .sample)
     listed-there =
         let o = obeyed (sheet .obeyed) e among .1 in
-        record { first = omega (arith, o .rises); last = o .most; slot = kept .lists text es sheet .listed e among }
+        let number = note-rule-is _ (e .note) .0 (o .note-rule) in
+        record { first = number .0; last = number .1; slot = kept .lists text es sheet .listed e among }
 
   pub not-there : (note : ℕ) → ((e : Entry) → Among e es → e .note ≡ note → ⊥) → Unlisted (sheetOf text .session) note
   unfolding emptySlot

@@ -21,33 +21,33 @@ use Rattle.hash.proofs.Taking.{taken-nil, taken-join, inOrder-taken}
 use Rattle.hash.proofs.Updating.{update-takes}
 use Rattle.hash.proofs.Cutting.{finish-fresh}
 use Rattle.hash.proofs.Comparing.{compared-same}
-use Rattle.session.specs.Rules.{loopRule, obeys}
+use Rattle.rules.specs.Rules.{loopRule, obeys}
 use Rattle.session.specs.Slots.{absent, waiting, isDecided, stateInOrder, slotInOrder, takenOf, waitingSlot}
-use Rattle.session.specs.Deliver.{asItStands, judged, withPiece, deliverTo, askOf}
-use Rattle.session.proofs.Rules.{length-rule-is}
-use Rattle.session.proofs.Deliver.{is-decided, runs-past as slot-runs-past, is-taken, waits-on, is-judged, asked as slot-asked}
-use Rattle.session.specs.declared.Record.{Record}
+use Rattle.session.specs.Deliver.{asItStands, decidedSlot, withPiece, deliverTo, askOf}
+use Rattle.rules.proofs.Rules.{length-rule-is}
+use Rattle.session.proofs.Deliver.{is-decided, runs-past as slot-runs-past, is-taken, waits-on, decides, asked as slot-asked}
+use Rattle.rules.specs.declared.Record.{Record}
 use Rattle.session.specs.declared.Slot.{Slot}
-use Rattle.promises.specs.Demand3.{verdict}
+use Rattle.promises.specs.Demand3.{decidedStatus}
 use Rattle.promises.proofs.LineRecord.{LineRecord}
 
 -- waiting, with these bytes taken; decided, by these bytes
 waitsWith : Record → List ℕ → Slot
-waitsWith r b = record { line = r; state = taken fresh b; status = waiting }
+waitsWith r b = record { sample = r; state = taken fresh b; status = waiting }
 
 decidedBy : Record → List ℕ → Slot
-decidedBy r b = record { line = r; state = fresh; status = verdict r b }
+decidedBy r b = record { sample = r; state = fresh; status = decidedStatus r b }
 
 -- the slot of a note with record r for which the bytes b were accepted
 pub reached : Record → List ℕ → Slot
 reached r b = cond (ltb (length b) (r .length)) (waitsWith r b) (decidedBy r b)
 
 -- its record is the line's, waiting or decided; decided, its state is fresh
-pub reached-line : (r : Record) (b : List ℕ) → reached r b .line ≡ r
+pub reached-line : (r : Record) (b : List ℕ) → reached r b .sample ≡ r
 unfolding reached waitsWith decidedBy
 reached-line r b = go (ltb (length b) (r .length))
   where
-    go : (t : Bool) → cond t (waitsWith r b) (decidedBy r b) .line ≡ r
+    go : (t : Bool) → cond t (waitsWith r b) (decidedBy r b) .sample ≡ r
     go true = refl
     go false = refl
 
@@ -55,23 +55,23 @@ pub reached-fresh : (r : Record) (b : List ℕ) → r .length ≤ length b → r
 unfolding reached decidedBy
 reached-fresh r b h = rw (le-ltb (length b) (r .length) h)
 
--- what holds of both statuses that a verdict may be holds of it: it is open or shut, and neither is waiting
+-- what holds of both statuses that a decision may give holds of it: it is open or shut, and neither is waiting
 either : (f : ℕ → Bool) (c t : Bool) (x y : ℕ) → f x ≡ c → f y ≡ c → f (cond t x y) ≡ c
 either f c true x y h k = h
 either f c false x y h k = k
 
 module _ (r : Record) (b : List ℕ) where
-  verdict-decided : isDecided (verdict r b) ≡ true
-  unfolding isDecided verdict
-  verdict-decided = either isDecided true (same (sm3 b) (r .digest)) _ _ refl refl
+  status-decided : isDecided (decidedStatus r b) ≡ true
+  unfolding isDecided decidedStatus
+  status-decided = either isDecided true (same (sm3 b) (r .digest)) _ _ refl refl
 
-  verdict-not-waiting : eqb (verdict r b) waiting ≡ false
-  unfolding verdict
-  verdict-not-waiting = either (λ status. eqb status waiting) false (same (sm3 b) (r .digest)) _ _ refl refl
+  status-not-waiting : eqb (decidedStatus r b) waiting ≡ false
+  unfolding decidedStatus
+  status-not-waiting = either (λ status. eqb status waiting) false (same (sm3 b) (r .digest)) _ _ refl refl
 
-  verdict-not-absent : eqb (verdict r b) absent ≡ false
-  unfolding verdict
-  verdict-not-absent = either (λ status. eqb status absent) false (same (sm3 b) (r .digest)) _ _ refl refl
+  status-not-absent : eqb (decidedStatus r b) absent ≡ false
+  unfolding decidedStatus
+  status-not-absent = either (λ status. eqb status absent) false (same (sm3 b) (r .digest)) _ _ refl refl
 
 total-taken : (b : List ℕ) → taken fresh b .total ≡ length b
 unfolding taken fresh
@@ -97,7 +97,7 @@ module _ (r : Record) (line : LineRecord r) where
 
     in-order-decided : slotInOrder (decidedBy r b) ≡ true
     unfolding slotInOrder stateInOrder decidedBy
-    in-order-decided = rw (line .rules, verdict-not-waiting r b, verdict-decided r b) isFresh-fresh
+    in-order-decided = rw (line .rules, status-not-waiting r b, status-decided r b) isFresh-fresh
 
     -- the digest of the bytes taken, held against the line's
     compared-taken : length b ≤ r .length → compareState (taken fresh b) (r .digest) .same ≡ same (sm3 b) (r .digest)
@@ -127,9 +127,9 @@ module _ (r : Record) (line : LineRecord r) where
         (update-takes (taken fresh b) p (in-order-taken b (omega arith)) (omega (arith, total-taken b, line-range .2))
         ∙ rw (taken-join fresh inOrder-fresh b p))
 
-    judged-by : judged (waitsWith r b) (taken fresh (b ++ p)) ≡ decidedBy r (b ++ p)
-    unfolding judged waitsWith decidedBy verdict
-    judged-by = rw (compared-taken (b ++ p) joined)
+    decided-by : decidedSlot (waitsWith r b) (taken fresh (b ++ p)) ≡ decidedBy r (b ++ p)
+    unfolding decidedSlot waitsWith decidedBy decidedStatus
+    decided-by = rw (compared-taken (b ++ p) joined)
 
     with-piece : withPiece (waitsWith r b) p ≡ reached r (b ++ p)
     unfolding waitsWith
@@ -141,7 +141,7 @@ module _ (r : Record) (line : LineRecord r) where
             waits-on (waitsWith r b) p _ updated (rw (total-taken (b ++ p)) less) ∙ sym (reached-waits (b ++ p) less)
         go false w =
             let full = ltb-false _ _ w in
-            is-judged (waitsWith r b) p _ updated (rw (total-taken (b ++ p)) full) ∙ judged-by ∙ sym (reached-decided (b ++ p) full)
+            decides (waitsWith r b) p _ updated (rw (total-taken (b ++ p)) full) ∙ decided-by ∙ sym (reached-decided (b ++ p) full)
 
   -- "each waiting, with its own line's record and a fresh state": nothing was accepted yet
   pub reached-nothing : reached r [] ≡ waitingSlot r
@@ -162,7 +162,7 @@ module _ (r : Record) (line : LineRecord r) where
 
     pub after-decided : r .length ≤ length b → deliverTo (reached r b) p ≡ record { answer = asItStands decided (reached r b); slot = reached r b }
     unfolding decidedBy
-    after-decided h = rw (reached-decided b h) (is-decided (decidedBy r b) p (in-order-decided b) (eqb-false _ _ (verdict-not-waiting r b)))
+    after-decided h = rw (reached-decided b h) (is-decided (decidedBy r b) p (in-order-decided b) (eqb-false _ _ (status-not-waiting r b)))
 
   -- status and taken as they stand, and asking, which gives the same
   module _ (b : List ℕ) (number : ℕ) where
@@ -170,9 +170,9 @@ module _ (r : Record) (line : LineRecord r) where
     unfolding asItStands takenOf waitsWith
     stands-waiting h = rw (reached-waits b h, total-taken b)
 
-    pub stands-decided : r .length ≤ length b → asItStands number (reached r b) ≡ record { no = number; status = verdict r b; taken = r .length }
+    pub stands-decided : r .length ≤ length b → asItStands number (reached r b) ≡ record { no = number; status = decidedStatus r b; taken = r .length }
     unfolding asItStands takenOf decidedBy
-    stands-decided h = rw (reached-decided b h, verdict-not-waiting r b)
+    stands-decided h = rw (reached-decided b h, status-not-waiting r b)
 
   in-order-reached : (b : List ℕ) (t : Bool) → ltb (length b) (r .length) ≡ t → slotInOrder (reached r b) ≡ true
   in-order-reached b true h = let l = ltb-true _ _ h in rw (reached-waits b l) (in-order-waits b l)
@@ -188,4 +188,4 @@ module _ (r : Record) (line : LineRecord r) where
     where
       go : (t : Bool) → eqb (cond {A = Slot} t (waitsWith r b) (decidedBy r b) .status) absent ≡ false
       go true = refl
-      go false = verdict-not-absent r b
+      go false = status-not-absent r b

@@ -7,7 +7,7 @@ use lib.Dec.{eqb}
 use lib.ListN.{length}
 use borrow.Author.Tests.{eqb-true, eqb-false}
 use Rattle.session.specs.Deliver.{deliverTo, deliver}
-use Rattle.session.specs.Places.{atPlace}
+use Rattle.session.specs.Deliver.{onSlot}
 use Rattle.session.specs.declared.Slot.{Slot}
 use Rattle.session.specs.declared.Step.{Step}
 use Rattle.session.specs.declared.Session.{Session}
@@ -27,17 +27,17 @@ does-deliver d slot = refl
 -- a note's slot after its own deliveries, and their answers
 slotAfter : ℕ → Slot → List Delivery → Slot
 slotAfter note slot [] = slot
-slotAfter note slot (d ∷ ds) = slotAfter note (atPlace slot note (does d) .slot) ds
+slotAfter note slot (d ∷ ds) = slotAfter note (onSlot slot note (does d) .slot) ds
 
 slotAnswers : ℕ → Slot → List Delivery → List Answer
 slotAnswers note slot [] = []
-slotAnswers note slot (d ∷ ds) = atPlace slot note (does d) .answer ∷ slotAnswers note (atPlace slot note (does d) .slot) ds
+slotAnswers note slot (d ∷ ds) = onSlot slot note (does d) .answer ∷ slotAnswers note (onSlot slot note (does d) .slot) ds
 
 -- one delivery, to the note or to another
 module _ (s : Session) (note : ℕ) (d : Delivery) where
   pub own-step : eqb (d .note) note ≡ true
-      → (deliver s (d .note) (d .piece) .answer ≡ atPlace (view s note) note (does d) .answer)
-      × (view (deliver s (d .note) (d .piece) .session) note ≡ atPlace (view s note) note (does d) .slot)
+      → (deliver s (d .note) (d .piece) .answer ≡ onSlot (view s note) note (does d) .answer)
+      × (view (deliver s (d .note) (d .piece) .session) note ≡ onSlot (view s note) note (does d) .slot)
   unfolding deliver does
   own-step h = rw (eqb-true (d .note) note h) (own s note (does d))
 
@@ -58,7 +58,7 @@ by-own note s (d ∷ ds) = go (eqb (d .note) note) refl (by-own note (deliver s 
   where
     go : (b : Bool) → eqb (d .note) note ≡ b → ByOwn note (deliver s (d .note) (d .piece) .session) ds → ByOwn note s (d ∷ ds)
     go true h ih = (
-      rw (h, own-step s note d h .0, ← own-step s note d h .1) (ap (λ (l : List Answer). atPlace (view s note) note (does d) .answer ∷ l) (ih .0)),
+      rw (h, own-step s note d h .0, ← own-step s note d h .1) (ap (λ (l : List Answer). onSlot (view s note) note (does d) .answer ∷ l) (ih .0)),
       rw h (ih .1 ∙ ap (λ (v : Slot). slotAfter note v (ownDeliveries note ds)) (own-step s note d h .1)),
     )
     go false h ih = rw (h, ← other-step s note d h) ih

@@ -5,7 +5,7 @@ use mathlib.Core.Bool.{Bool, true, false}
 use Prim.Native.Nat.{ℕ}
 use lib.Dec.{eqb}
 use Rattle.session.specs.Deliver.{deliverTo, deliver}
-use Rattle.session.specs.Places.{isListedAt}
+use Rattle.session.specs.Deliver.{isListed}
 use Rattle.session.proofs.Places.{at-unlisted, ask-at-unlisted}
 use Rattle.session.specs.declared.Session.{Session}
 use Rattle.promises.specs.Deliveries.{Delivery, after}
@@ -15,19 +15,19 @@ use Rattle.promises.proofs.OneNote.{view, omitted, asks, own, unchanged
 use Rattle.promises.proofs.Reordering.{does, own-step, other-step}
 
 module _ (note : ℕ) where
-  one-delivery : (s : Session) (d : Delivery) → isListedAt (view s note) note ≡ false → view (deliver s (d .note) (d .piece) .session) note ≡ view s note
+  one-delivery : (s : Session) (d : Delivery) → isListed (view s note) note ≡ false → view (deliver s (d .note) (d .piece) .session) note ≡ view s note
   one-delivery s d h = go (eqb (d .note) note) refl
     where
       go : (t : Bool) → eqb (d .note) note ≡ t → view (deliver s (d .note) (d .piece) .session) note ≡ view s note
       go true e = own-step s note d e .1 ∙ rw (at-unlisted (view s note) note (does d) h)
       go false e = other-step s note d e
 
-  any-deliveries : (s : Session) (ds : List Delivery) → isListedAt (view s note) note ≡ false → isListedAt (view (after s ds) note) note ≡ false
+  any-deliveries : (s : Session) (ds : List Delivery) → isListed (view s note) note ≡ false → isListed (view (after s ds) note) note ≡ false
   unfolding after
   any-deliveries s [] h = h
   any-deliveries s (d ∷ ds) h = any-deliveries (deliver s (d .note) (d .piece) .session) ds (rw (one-delivery s d h) h)
 
-  pub not-listed : (s : Session) → isListedAt (view s note) note ≡ false → NotListed s note
+  pub not-listed : (s : Session) → isListed (view s note) note ≡ false → NotListed s note
   unfolding deliver
   not-listed s h =
       record {

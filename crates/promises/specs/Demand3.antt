@@ -12,19 +12,19 @@ use Rattle.same.specs.Same.{same}
 use Rattle.hash.specs.Sm3.{sm3}
 use Rattle.hash.specs.State.{fresh}
 use Rattle.session.specs.Slots.{waiting, opened, shut}
-use Rattle.session.specs.Deliver.{nothing, slotOf, deliver, ask}
+use Rattle.session.specs.Deliver.{bareRefusal, slotOf, deliver, ask}
 use Rattle.session.specs.Promises.{Unlisted}
-use Rattle.session.specs.declared.Record.{Record}
+use Rattle.rules.specs.declared.Record.{Record}
 use Rattle.session.specs.declared.Session.{Session}
 use Rattle.sheet.specs.Judging.{sheetOf}
-use Rattle.sheet.specs.declared.Entry.{Entry}
+use Rattle.lines.specs.declared.Entry.{Entry}
 use Rattle.sheet_promises.specs.Grammar.{IsSheet}
 use Rattle.sheet_promises.specs.Promises.{Among}
 use Rattle.promises.specs.Deliveries.{Delivery, after, acceptedBytes}
 
 -- "open if the accepted bytes' SM3 digest is the sheet's and shut if not"
-unfoldable pub verdict : Record → List ℕ → ℕ
-verdict r bytes = cond (same (sm3 bytes) (r .digest)) opened shut
+unfoldable pub decidedStatus : Record → List ℕ → ℕ
+decidedStatus r bytes = cond (same (sm3 bytes) (r .digest)) opened shut
 
 -- what is promised of a listed note with record r in the session s, `bytes` being the bytes accepted for it
 pub record Promised (s : Session) (note : ℕ) (r : Record) (bytes : List ℕ) : Type 0 where
@@ -40,27 +40,27 @@ pub record Promised (s : Session) (note : ℕ) (r : Record) (bytes : List ℕ) :
   pub refuses : length bytes < r .length → (piece : List ℕ) → r .length < length bytes + length piece
       → deliver s note piece ≡ record { answer = record { no = past-length; status = waiting; taken = length bytes }; session = s }
   -- "there the note is open if the accepted bytes' SM3 digest is the sheet's and shut if not"
-  pub decides : length bytes ≡ r .length → ask s note ≡ record { no = accepted; status = verdict r bytes; taken = length bytes }
+  pub decides : length bytes ≡ r .length → ask s note ≡ record { no = accepted; status = decidedStatus r bytes; taken = length bytes }
   pub opens : length bytes ≡ r .length → (ask s note .status ≡ opened) ↔ (sm3 bytes ≡ r .digest)
   pub shuts : length bytes ≡ r .length → (ask s note .status ≡ shut) ↔ (sm3 bytes ≡ r .digest → ⊥)
   -- it keeps "its own line's record", whatever was delivered; "A decided slot holds a fresh state"
-  pub keeps : slotOf s note .line ≡ r
+  pub keeps : slotOf s note .sample ≡ r
   pub leaves : length bytes ≡ r .length → slotOf s note .state ≡ fresh
   -- "and it stays so": whatever is delivered later; its own deliveries are refused (7), the empty piece too
   pub stays : length bytes ≡ r .length → (later : List Delivery) → ask (after s later) note ≡ ask s note
   pub closed : length bytes ≡ r .length → (later : List Delivery) (piece : List ℕ)
       → deliver (after s later) note piece
-      ≡ record { answer = record { no = decided; status = verdict r bytes; taken = length bytes }; session = after s later }
+      ≡ record { answer = record { no = decided; status = decidedStatus r bytes; taken = length bytes }; session = after s later }
 
 -- of a note that is not listed: it never is, and every delivery to it is refused (5)
 pub record NotListed (s : Session) (note : ℕ) : Type 0 where
-  pub asked : ask s note ≡ nothing unlisted
-  pub refused : (piece : List ℕ) → deliver s note piece ≡ record { answer = nothing unlisted; session = s }
+  pub asked : ask s note ≡ bareRefusal unlisted
+  pub refused : (piece : List ℕ) → deliver s note piece ≡ record { answer = bareRefusal unlisted; session = s }
 
 pub record Demand3 : Type 0 where
   -- "From an accepted sheet, after any sequence of deliveries": of every note that its lines list
   pub listed : (text : List ℕ) (es : List Entry) → IsSheet text es → (e : Entry) → Among e es → (ds : List Delivery)
-      → Promised (after (sheetOf text .session) ds) (e .note) (e .line) (acceptedBytes (e .note) (sheetOf text .session) ds)
+      → Promised (after (sheetOf text .session) ds) (e .note) (e .sample) (acceptedBytes (e .note) (sheetOf text .session) ds)
   -- and of every other number
   pub others : (text : List ℕ) (es : List Entry) → IsSheet text es → (note : ℕ) → ((e : Entry) → Among e es → e .note ≡ note → ⊥) → (ds : List Delivery)
       → NotListed (after (sheetOf text .session) ds) note

@@ -9,7 +9,7 @@ use Rattle.refusal.specs.Table.{accepted, bad-loop}
 use Rattle.sm3.specs.declared.Words.{Words}
 use Rattle.sm3.specs.Standard.{IV, P0, P1, expansion, W′, rounds}
 use Rattle.padding.specs.Padding.{padded, blockCount}
-use Rattle.session.specs.Rules.{loopRule}
+use Rattle.rules.specs.Rules.{loopRule}
 
 -- what the definitions give, and what document 01 prints
 pub record Example : Type 0 where

@@ -8,10 +8,10 @@ use borrow.Author.Tests.{eq-eqb, ne-eqb, eqb-true, eqb-false, lt-ltb, le-ltb}
 use lib.Dec.{eqb}
 use lib.ListN.{length}
 use Rattle.refusal.specs.Table.{accepted, form}
-use Rattle.sheet.specs.Reading.{noteLine, headerLine}
+use Rattle.lines.specs.Reading.{noteLine, headerLine}
 use Rattle.sheet.specs.Judging.{headerNumber, noteNumber, badLine, allGood, judgedNotes, judged}
-use Rattle.sheet.specs.declared.Field.{Field}
-use Rattle.sheet.specs.declared.NoteLine.{NoteLine}
+use Rattle.lines.specs.declared.Field.{Field}
+use Rattle.lines.specs.declared.NoteLine.{NoteLine}
 use Rattle.sheet.specs.declared.Verdict.{Verdict}
 use Rattle.sheet.proofs.Verdicts.{most-notes}
 use Rattle.reader.specs.Judging.{bad, afterHeader, afterLine, atEnd}

@@ -4,17 +4,17 @@ use denote.Struct.Laws as LL
 use Rattle.walks.proofs.Borrow.{Data, IsData}
 use Rattle.sheet.proofs.Verdict as G
 use Rattle.sheet.proofs.Verdict.Laws as G′
-use Rattle.sheet.proofs.NoteLine as N
-use Rattle.sheet.proofs.NoteLine.Laws as N′
-use Rattle.sheet.proofs.Field as F
-use Rattle.sheet.proofs.Field.Laws as F′
-use Rattle.sheet.proofs.DigestField as D
-use Rattle.sheet.proofs.DigestField.Laws as D′
+use Rattle.lines.proofs.NoteLine as N
+use Rattle.lines.proofs.NoteLine.Laws as N′
+use Rattle.lines.proofs.Field as F
+use Rattle.lines.proofs.Field.Laws as F′
+use Rattle.lines.proofs.DigestField as D
+use Rattle.lines.proofs.DigestField.Laws as D′
 use Rattle.reader.proofs.Judging as J
 use Rattle.reader.proofs.Judging.Laws as J′
-use Rattle.sheet.specs.declared.NoteLine.{NoteLine}
-use Rattle.sheet.specs.declared.Field.{Field}
-use Rattle.sheet.specs.declared.DigestField.{DigestField}
+use Rattle.lines.specs.declared.NoteLine.{NoteLine}
+use Rattle.lines.specs.declared.Field.{Field}
+use Rattle.lines.specs.declared.DigestField.{DigestField}
 
 abbrev pub Judged : Data
 Judged = record { type = G.the-type; laws = G′.the-laws; plain = G′.the-plain; copies = G′.the-copy }

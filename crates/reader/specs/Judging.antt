@@ -4,8 +4,8 @@ use mathlib.Core.Bool.{cond}
 use lib.Dec.{ltb, eqb}
 use Rattle.refusal.specs.Table.{accepted, form}
 use Rattle.sheet.specs.Judging.{headerNumber, noteNumber, badLine, allGood}
-use Rattle.sheet.specs.declared.Field.{Field}
-use Rattle.sheet.specs.declared.NoteLine.{NoteLine}
+use Rattle.lines.specs.declared.Field.{Field}
+use Rattle.lines.specs.declared.NoteLine.{NoteLine}
 use Rattle.sheet.specs.declared.Verdict.{Verdict}
 use Rattle.reader.specs.declared.Judging.{Judging}
 

@@ -2,7 +2,7 @@
 use Prim.Native.Nat.{ℕ}
 use mathlib.Core.List.{List}
 use denote.Ref.{RefT, now}
-use Rattle.sheet.specs.Reading.{headerLine, fieldAt, digestAt, noteLine}
+use Rattle.lines.specs.Reading.{headerLine, fieldAt, digestAt, noteLine}
 use Rattle.reader.specs.declared.SheetReader.{SheetReader}
 use Rattle.reader.specs.declared.NumberRead.{NumberRead}
 use Rattle.reader.specs.declared.DigestRead.{DigestRead}

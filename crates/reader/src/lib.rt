@@ -4,11 +4,11 @@ ghost use Rattle.reader.specs.Reader.{beginOf, headerRead, numberRead, d
 ghost use Prim.Native.Nat.{_+_, _<_, _≤_, _^_};
 ghost use Rattle.sheet.specs.Judging.{judged};
 ghost use Rattle.reader.specs.Judging.{afterHeader, afterLine, atEnd};
+use lines::DigestField;
+use lines::Field;
+use lines::NoteLine;
 use refusal::ACCEPTED;
 use refusal::FORM;
-use sheet::DigestField;
-use sheet::Field;
-use sheet::NoteLine;
 use sheet::Verdict;
 
 // A reader of a sheet: the text, and the place in it where the reader stands.
@@ -51,7 +51,7 @@ pub fn place<'a>(r: SheetReader<'a>) -> usize
 pub fn header<'a>(r: SheetReader<'a>) -> NumberRead<'a>
     ensures { λ q. ⌜ q ≡ headerRead (r .entry) ⌝ }
 {
-    let field = sheet::header_line(r.text);
+    let field = lines::header_line(r.text);
     let at = field.at;
     NumberRead {
         field,
@@ -63,7 +63,7 @@ pub fn header<'a>(r: SheetReader<'a>) -> NumberRead<'a>
 pub fn next_number<'a>(r: SheetReader<'a>, ending: u8) -> NumberRead<'a>
     ensures { λ q. ⌜ q ≡ numberRead (r .entry) ending ⌝ }
 {
-    let field = sheet::field_at(r.text, r.at, ending);
+    let field = lines::field_at(r.text, r.at, ending);
     let at = field.at;
     NumberRead {
         field,
@@ -75,7 +75,7 @@ pub fn next_number<'a>(r: SheetReader<'a>, ending: u8) -> NumberRead<'a>
 pub fn next_digest<'a>(r: SheetReader<'a>) -> DigestRead<'a>
     ensures { λ q. ⌜ q ≡ digestRead (r .entry) ⌝ }
 {
-    let field = sheet::digest_at(r.text, r.at);
+    let field = lines::digest_at(r.text, r.at);
     let at = field.at;
     DigestRead {
         field,
@@ -87,7 +87,7 @@ pub fn next_digest<'a>(r: SheetReader<'a>) -> DigestRead<'a>
 pub fn next_line<'a>(r: SheetReader<'a>) -> LineRead<'a>
     ensures { λ q. ⌜ q ≡ lineRead (r .entry) ⌝ }
 {
-    let line = sheet::note_line(r.text, r.at);
+    let line = lines::note_line(r.text, r.at);
     let at = line.at;
     LineRead {
         line,

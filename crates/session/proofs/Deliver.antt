@@ -9,7 +9,7 @@ use Rattle.refusal.specs.Table.{accepted, slot-not-in-order, decided, past-leng
 use Rattle.hash.specs.Update.{update}
 use Rattle.hash.specs.declared.Updated.{Updated}
 use Rattle.session.specs.Slots.{waiting, slotInOrder, takenOf}
-use Rattle.session.specs.Deliver.{nothing, asItStands, judged, withPiece, deliverTo, askOf}
+use Rattle.session.specs.Deliver.{bareRefusal, asItStands, decidedSlot, withPiece, deliverTo, askOf}
 use Rattle.session.specs.declared.Slot.{Slot}
 
 -- an answer as a slot stands
@@ -18,7 +18,7 @@ unfolding asItStands
 stands number t s h = rw h
 
 module _ (s : Slot) (piece : List ℕ) where
-  pub not-in-order : slotInOrder s ≡ false → deliverTo s piece ≡ record { answer = nothing slot-not-in-order; slot = s }
+  pub not-in-order : slotInOrder s ≡ false → deliverTo s piece ≡ record { answer = bareRefusal slot-not-in-order; slot = s }
   unfolding deliverTo
   not-in-order o = simp o
 
@@ -26,31 +26,31 @@ module _ (s : Slot) (piece : List ℕ) where
   unfolding deliverTo
   is-decided o w = simp (o, ne-eqb (s .status) waiting w)
 
-  pub runs-past : slotInOrder s ≡ true → s .status ≡ waiting → s .line .length - s .state .total < length piece
+  pub runs-past : slotInOrder s ≡ true → s .status ≡ waiting → s .sample .length - s .state .total < length piece
       → deliverTo s piece ≡ record { answer = asItStands past-length s; slot = s }
   unfolding deliverTo
-  runs-past o w l = simp (o, eq-eqb (s .status) waiting w, lt-leb (length piece) (s .line .length - s .state .total) l)
+  runs-past o w l = simp (o, eq-eqb (s .status) waiting w, lt-leb (length piece) (s .sample .length - s .state .total) l)
 
-  pub is-taken : slotInOrder s ≡ true → s .status ≡ waiting → length piece ≤ s .line .length - s .state .total
+  pub is-taken : slotInOrder s ≡ true → s .status ≡ waiting → length piece ≤ s .sample .length - s .state .total
       → deliverTo s piece ≡ record { answer = asItStands accepted (withPiece s piece); slot = withPiece s piece }
   unfolding deliverTo
-  is-taken o w l = simp (o, eq-eqb (s .status) waiting w, le-leb (length piece) (s .line .length - s .state .total) l)
+  is-taken o w l = simp (o, eq-eqb (s .status) waiting w, le-leb (length piece) (s .sample .length - s .state .total) l)
 
 -- a piece that is taken, short of the length and up to it
 module _ (s : Slot) (piece : List ℕ) (u : Updated) (e : u ≡ update (s .state) piece) where
-  pub waits-on : u .state .total < s .line .length → withPiece s piece ≡ record { line = s .line; state = u .state; status = waiting }
+  pub waits-on : u .state .total < s .sample .length → withPiece s piece ≡ record { sample = s .sample; state = u .state; status = waiting }
   unfolding withPiece
-  waits-on l = rw (← e) (simp (lt-ltb (u .state .total) (s .line .length) l))
+  waits-on l = rw (← e) (simp (lt-ltb (u .state .total) (s .sample .length) l))
 
-  pub is-judged : s .line .length ≤ u .state .total → withPiece s piece ≡ judged s (u .state)
+  pub decides : s .sample .length ≤ u .state .total → withPiece s piece ≡ decidedSlot s (u .state)
   unfolding withPiece
-  is-judged l = rw (← e) (simp (le-ltb (u .state .total) (s .line .length) l))
+  decides l = rw (← e) (simp (le-ltb (u .state .total) (s .sample .length) l))
 
 module _ (s : Slot) where
   pub asked : slotInOrder s ≡ true → askOf s ≡ asItStands accepted s
   unfolding askOf
   asked o = simp o
 
-  pub asked-not-in-order : slotInOrder s ≡ false → askOf s ≡ nothing slot-not-in-order
+  pub asked-not-in-order : slotInOrder s ≡ false → askOf s ≡ bareRefusal slot-not-in-order
   unfolding askOf
   asked-not-in-order o = simp o

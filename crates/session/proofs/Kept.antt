@@ -1,7 +1,7 @@
 -- Every promise of the crate, kept. Assumes nothing.
 use Rattle.session.specs.Promises.{Promises}
 use Rattle.session.proofs.Records.{record-kept}
-use Rattle.session.proofs.Rules.{length-rule-is, loop-rule-is}
+use Rattle.session.proofs.Places.{slot-at}
 use Rattle.session.proofs.Slots.{slot-in-order-is}
 use Rattle.session.proofs.Rows.{by-table, ask-by-table, refused-leaves, empty-leaves, accepted-counts}
 use Rattle.session.proofs.Apart.{are-apart}
@@ -9,8 +9,7 @@ use Rattle.session.proofs.Apart.{are-apart}
 pub kept : Promises
 kept =
     record {
-      lengths = length-rule-is;
-      loops = loop-rule-is;
+      places = slot-at;
       inOrder = slot-in-order-is;
       table = by-table;
       askTable = ask-by-table;

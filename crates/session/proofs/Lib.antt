@@ -1,4 +1,3 @@
-pub mod Rules
 pub mod Slots
 pub mod Deliver
 pub mod Pieces

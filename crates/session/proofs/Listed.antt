@@ -1,30 +1,45 @@
 -- A note that is listed, and its test. Assumes nothing.
 use Prim.Native.Nat.{ℕ}
-use mathlib.Core.Path.{_≡_, refl}
+use mathlib.Core.Path.{_≡_, refl, ap}
 use mathlib.Core.Logic.{_↔_, inl, inr}
-use mathlib.Core.Bool.{Bool, true, false, not, _&&_}
+use mathlib.Core.Bool.{Bool, true, false, not}
 use native.Mathlib.Omega.{arith}
-use borrow.Author.Tests.{le-leb, ne-eqb, leb-true, leb-false, eqb-true, eqb-false, not-true}
+use borrow.Author.Tests.{ne-eqb, leb-true, leb-false, eqb-true, eqb-false, not-true}
 use lib.Dec.{leb, eqb}
-use Rattle.same.proofs.Tests.{first, second, never, not-both}
+use Rattle.same.proofs.Tests.{first, second, both, never, not-both}
+use Rattle.rules.specs.Rules.{isNote}
+use Rattle.rules.proofs.Rules.{is-note-is}
 use Rattle.session.specs.Slots.{absent}
 use Rattle.session.specs.Deliver.{slotOf, isListed}
 use Rattle.session.specs.Promises.{Listed, Unlisted}
+use Rattle.session.specs.declared.Slot.{Slot}
 use Rattle.session.specs.declared.Session.{Session}
 
+module _ (s : Slot) (note : ℕ) where
+  pub listed-note : isListed s note ≡ true → isNote note ≡ true
+  unfolding isListed
+  listed-note h = first (isNote note) (not (eqb (s .status) absent)) h
+
+  listed-status : isListed s note ≡ true → s .status ≡ absent → ⊥
+  unfolding isListed
+  listed-status h = eqb-false _ _ (not-true _ (second (isNote note) (not (eqb (s .status) absent)) h))
+
+  is-listed : isNote note ≡ true → (s .status ≡ absent → ⊥) → isListed s note ≡ true
+  unfolding isListed
+  is-listed n h = both _ _ n (ap not (ne-eqb _ _ h))
+
+  pub no-note : isNote note ≡ false → isListed s note ≡ false
+  unfolding isListed
+  no-note h = simp h
+
 module _ (s : Session) (note : ℕ) where
-  listed-then : isListed s note ≡ true → Listed s note
-  unfolding isListed
-  listed-then h =
-      let number = first (leb 1 note && leb note 32) (not (eqb (slotOf s note .status) absent)) h in
-      let status = second (leb 1 note && leb note 32) (not (eqb (slotOf s note .status) absent)) h in
-      (leb-true _ _ (first (leb 1 note) (leb note 32) number), leb-true _ _ (second (leb 1 note) (leb note 32) number), eqb-false _ _ (not-true _ status))
+  listed-then : isListed (slotOf s note) note ≡ true → Listed s note
+  listed-then h = let number = is-note-is note .0 (listed-note (slotOf s note) note h) in (number .0, number .1, listed-status (slotOf s note) note h)
 
-  listed-test : Listed s note → isListed s note ≡ true
-  unfolding isListed
-  listed-test (low, high, status) = simp (le-leb _ _ low, le-leb _ _ high, ne-eqb _ _ status)
+  listed-test : Listed s note → isListed (slotOf s note) note ≡ true
+  listed-test (low, high, status) = is-listed (slotOf s note) note (is-note-is note .1 (low, high)) status
 
-  pub listed-is : (isListed s note ≡ true) ↔ Listed s note
+  pub listed-is : (isListed (slotOf s note) note ≡ true) ↔ Listed s note
   listed-is = (listed-then, listed-test)
 
   -- what is listed is not unlisted
@@ -33,11 +48,12 @@ module _ (s : Session) (note : ℕ) where
   never-both (low, high, status) (inr (inl e)) = omega arith
   never-both (low, high, status) (inr (inr e)) = status e
 
-  unlisted-then : (a b c : Bool) → leb 1 note ≡ a → leb note 32 ≡ b → eqb (slotOf s note .status) absent ≡ c → isListed s note ≡ false → Unlisted s note
+  unlisted-then : (a b c : Bool) → leb 1 note ≡ a → leb note 32 ≡ b → eqb (slotOf s note .status) absent ≡ c → isListed (slotOf s note) note ≡ false
+      → Unlisted s note
   unlisted-then false b c p q r h = let low = leb-false 1 note p in inl (omega arith)
   unlisted-then true false c p q r h = inr (inl (leb-false _ _ q))
   unlisted-then true true true p q r h = inr (inr (eqb-true _ _ r))
   unlisted-then true true false p q r h = absurd (not-both _ h (listed-test (leb-true _ _ p, leb-true _ _ q, eqb-false _ _ r)))
 
-  pub unlisted-is : (isListed s note ≡ false) ↔ Unlisted s note
+  pub unlisted-is : (isListed (slotOf s note) note ≡ false) ↔ Unlisted s note
   unlisted-is = (unlisted-then _ _ _ refl refl refl, λ u. never _ (λ h. never-both (listed-then h) u))

@@ -15,29 +15,29 @@ use Rattle.hash.specs.Digests.{compareState}
 use Rattle.hash.specs.declared.Hash.{Hash}
 use Rattle.hash.proofs.Taking.{taken-nil}
 use Rattle.hash.proofs.Updating.{update-takes}
-use Rattle.session.specs.Rules.{lengthRule, obeys}
+use Rattle.rules.specs.Rules.{lengthRule, obeys}
 use Rattle.session.specs.Slots.{waiting, slotInOrder, takenOf}
-use Rattle.session.specs.Deliver.{judged, withPiece}
+use Rattle.session.specs.Deliver.{decidedSlot, withPiece}
 use Rattle.session.specs.declared.Slot.{Slot}
-use Rattle.session.proofs.Rules.{length-rule-is}
+use Rattle.rules.proofs.Rules.{length-rule-is}
 use Rattle.session.proofs.Slots.{slot-in-order-is, when-waiting, taken-waiting, has-room}
-use Rattle.session.proofs.Deliver.{waits-on, is-judged}
+use Rattle.session.proofs.Deliver.{waits-on, decides}
 
--- a judged slot has taken its length
-judged-taken : (s : Slot) (h : Hash) (b : Bool) → compareState h (s .line .digest) .same ≡ b → takenOf (judged s h) ≡ s .line .length
-unfolding judged takenOf
-judged-taken s h true e = rw e
-judged-taken s h false e = rw e
+-- a decidedSlot slot has taken its length
+decided-taken : (s : Slot) (h : Hash) (b : Bool) → compareState h (s .sample .digest) .same ≡ b → takenOf (decidedSlot s h) ≡ s .sample .length
+unfolding decidedSlot takenOf
+decided-taken s h true e = rw e
+decided-taken s h false e = rw e
 
 module _ (s : Slot) (o : slotInOrder s ≡ true) (w : s .status ≡ waiting) where
   state-in-order : inOrder (s .state) ≡ true
   state-in-order = when-waiting s o w .0
 
-  length-fits : s .line .length ≤ 4294967294
+  length-fits : s .sample .length ≤ 4294967294
   unfolding obeys
-  length-fits = length-rule-is _ .0 (first (lengthRule (s .line .length)) _ (slot-in-order-is s .0 o .0)) .2
+  length-fits = length-rule-is _ .0 (first (lengthRule (s .sample .length)) _ (slot-in-order-is s .0 o .0)) .2
 
-  module _ (piece : List ℕ) (fits : takenOf s + length piece ≤ s .line .length) where
+  module _ (piece : List ℕ) (fits : takenOf s + length piece ≤ s .sample .length) where
     abbrev h : Hash
     h = taken (s .state) piece
 
@@ -48,13 +48,13 @@ module _ (s : Slot) (o : slotInOrder s ≡ true) (w : s .status ≡ waiting) whe
     unfolding taken
     total-after = rw (taken-waiting s w)
 
-    counts : (b : Bool) → ltb (h .total) (s .line .length) ≡ b → takenOf (withPiece s piece) ≡ takenOf s + length piece
+    counts : (b : Bool) → ltb (h .total) (s .sample .length) ≡ b → takenOf (withPiece s piece) ≡ takenOf s + length piece
     unfolding takenOf
     counts true e = ap takenOf (waits-on s piece _ (sym takes) (ltb-true _ _ e)) ∙ total-after
     counts false e =
         let k = ltb-false _ _ e in
         let t = total-after in
-        ap takenOf (is-judged s piece _ (sym takes) k) ∙ judged-taken s h _ refl ∙ omega arith
+        ap takenOf (decides s piece _ (sym takes) k) ∙ decided-taken s h _ refl ∙ omega arith
 
     pub counted : takenOf (withPiece s piece) ≡ takenOf s + length piece
     counted = counts _ refl
@@ -64,5 +64,5 @@ module _ (s : Slot) (o : slotInOrder s ≡ true) (w : s .status ≡ waiting) whe
       let t = taken-waiting s w in
       let r = has-room s o w in
       let same = taken-nil (s .state) state-in-order in
-      waits-on s [] _ (sym (takes [] (omega arith))) (rw same r) ∙ ap (λ k. record { line = s .line; state = k; status = waiting }) same
-      ∙ ap (λ k. record { line = s .line; state = s .state; status = k }) (sym w)
+      waits-on s [] _ (sym (takes [] (omega arith))) (rw same r) ∙ ap (λ k. record { sample = s .sample; state = k; status = waiting }) same
+      ∙ ap (λ k. record { sample = s .sample; state = s .state; status = k }) (sym w)

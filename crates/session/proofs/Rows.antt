@@ -8,11 +8,10 @@ use native.Mathlib.Omega.{arith}
 use native.Mathlib.Nat.{not-le-of-lt, lt-of-not-le}
 use borrow.Author.Tests.{eqb-true, eqb-false, leb-true, leb-false}
 use lib.Dec.{eqb, leb}
-use lib.ListN.{length, set}
-use lib.Seq.{set-getD}
+use lib.ListN.{length}
 use Rattle.refusal.specs.Table.{accepted}
-use Rattle.session.specs.Slots.{waiting, emptySlot, slotInOrder, takenOf}
-use Rattle.session.specs.Deliver.{nothing, asItStands, deliverTo, slotOf, isListed, deliver, ask}
+use Rattle.session.specs.Slots.{waiting, slotInOrder, takenOf}
+use Rattle.session.specs.Deliver.{bareRefusal, asItStands, deliverTo, slotOf, isListed, deliver, ask}
 use Rattle.session.specs.Promises.{Row, row5, row6, row7, row8, row0, AskRow, ask5, ask6, ask0, Listed}
 use Rattle.session.specs.declared.Slot.{Slot}
 use Rattle.session.specs.declared.Session.{Session}
@@ -21,8 +20,8 @@ use Rattle.session.specs.declared.Delivered.{Delivered}
 use Rattle.session.proofs.Slots.{not-waiting, has-room, else-decided, taken-waiting}
 use Rattle.session.proofs.Deliver.{not-in-order, is-decided, runs-past, is-taken, asked, asked-not-in-order}
 use Rattle.session.proofs.Pieces.{counted, empty-piece}
-use Rattle.session.proofs.Places.{on-listed, on-unlisted, ask-listed, ask-unlisted}
-use Rattle.session.proofs.Listed.{listed-is, unlisted-is}
+use Rattle.session.proofs.Places.{place-of-note, unchanged, on-listed, on-unlisted, ask-at-listed, ask-at-unlisted}
+use Rattle.session.proofs.Listed.{listed-note, listed-is, unlisted-is}
 
 -- where two bounds hold together, they are passed together
 past-room : {a b c d : ℕ} → (a ≤ b) ↔ (c ≤ d) → b < a → d < c
@@ -32,19 +31,14 @@ module _ (s : Session) (note : ℕ) (piece : List ℕ) where
   abbrev slot : Slot
   slot = slotOf s note
 
-  -- a slot that is put back as it was leaves the session as it was
-  unchanged : set (s .slots) (note - 1) slot ≡ s .slots
-  unfolding slotOf
-  unchanged = set-getD (s .slots) (note - 1) emptySlot
-
   refusal : Listed s note → (a : Answer) → deliverTo slot piece ≡ record { answer = a; slot = slot }
       → deliver s note piece ≡ record { answer = a; session = s }
   unfolding deliver
-  refusal l a e = on-listed s note _ (listed-is s note .1 l) ∙ rw (e, unchanged)
+  refusal l a e = on-listed s note _ (listed-is s note .1 l) ∙ rw (e, unchanged s note)
 
   -- "taken + piece exceeds length", and the room that the piece is held against
   room-is : slotInOrder slot ≡ true → slot .status ≡ waiting
-      → (takenOf slot + length piece ≤ slot .line .length) ↔ (length piece ≤ slot .line .length - slot .state .total)
+      → (takenOf slot + length piece ≤ slot .sample .length) ↔ (length piece ≤ slot .sample .length - slot .state .total)
   room-is o w =
       let t = taken-waiting slot w in
       let r = has-room slot o w in
@@ -57,11 +51,13 @@ module _ (s : Session) (note : ℕ) (piece : List ℕ) where
   holds (row6 l o) = sym (refusal l _ (not-in-order slot piece o))
   holds (row7 l o d) = sym (refusal l _ (is-decided slot piece o (not-waiting slot d)))
   holds (row8 l o w e) = sym (refusal l _ (runs-past slot piece o w (past-room (room-is o w) e)))
-  holds (row0 l o w e) = sym (on-listed s note _ (listed-is s note .1 l) ∙ rw (is-taken slot piece o w (room-is o w .0 e)))
+  holds (row0 l o w e) =
+      let listed = listed-is s note .1 l in
+      sym (on-listed s note _ listed ∙ rw (is-taken slot piece o w (room-is o w .0 e), place-of-note note (listed-note slot note listed)))
 
   -- some row holds
-  some : (l o w f : Bool) → isListed s note ≡ l → slotInOrder slot ≡ o → eqb (slot .status) waiting ≡ w
-      → leb (length piece) (slot .line .length - slot .state .total) ≡ f → (r : Delivered) × Row s note piece r
+  some : (l o w f : Bool) → isListed (slotOf s note) note ≡ l → slotInOrder slot ≡ o → eqb (slot .status) waiting ≡ w
+      → leb (length piece) (slot .sample .length - slot .state .total) ≡ f → (r : Delivered) × Row s note piece r
   some false o w f p q r t = (_, row5 (unlisted-is s note .0 p))
   some true false w f p q r t = (_, row6 (listed-is s note .0 p) q)
   some true true false f p q r t = (_, row7 (listed-is s note .0 p) q (else-decided slot q (eqb-false _ _ r)))
@@ -89,7 +85,7 @@ module _ (s : Session) (note : ℕ) (piece : List ℕ) where
 
   -- a row that accepts counts the piece
   counts : {d : Delivered} → Row s note piece d → d .answer .no ≡ accepted → d .answer .taken ≡ takenOf slot + length piece
-  unfolding nothing asItStands
+  unfolding bareRefusal asItStands
   counts (row5 u) n = absurd (omega arith)
   counts (row6 l o) n = absurd (omega arith)
   counts (row7 l o d) n = absurd (omega arith)
@@ -105,16 +101,18 @@ pub empty-leaves : (s : Session) (note : ℕ) → Listed s note → slotInOrder 
 empty-leaves s note l o w =
     let t = taken-waiting (slotOf s note) w in
     let r = has-room (slotOf s note) o w in
-    sym (holds s note [] (row0 l o w (omega arith))) ∙ rw (empty-piece (slotOf s note) o w, unchanged s note [])
+    let place = place-of-note note (listed-note (slotOf s note) note (listed-is s note .1 l)) in
+    sym (holds s note [] (row0 l o w (omega arith))) ∙ rw (empty-piece (slotOf s note) o w, ← place, unchanged s note)
 
 -- the same of asking
 module _ (s : Session) (note : ℕ) where
   ask-holds : {a : Answer} → AskRow s note a → a ≡ ask s note
-  ask-holds (ask5 u) = sym (ask-unlisted s note (unlisted-is s note .1 u))
-  ask-holds (ask6 l o) = sym (ask-listed s note (listed-is s note .1 l) ∙ asked-not-in-order (slotOf s note) o)
-  ask-holds (ask0 l o) = sym (ask-listed s note (listed-is s note .1 l) ∙ asked (slotOf s note) o)
+  unfolding ask
+  ask-holds (ask5 u) = sym (ask-at-unlisted (slotOf s note) note (unlisted-is s note .1 u))
+  ask-holds (ask6 l o) = sym (ask-at-listed (slotOf s note) note (listed-is s note .1 l) ∙ asked-not-in-order (slotOf s note) o)
+  ask-holds (ask0 l o) = sym (ask-at-listed (slotOf s note) note (listed-is s note .1 l) ∙ asked (slotOf s note) o)
 
-  ask-some : (l o : Bool) → isListed s note ≡ l → slotInOrder (slotOf s note) ≡ o → (a : Answer) × AskRow s note a
+  ask-some : (l o : Bool) → isListed (slotOf s note) note ≡ l → slotInOrder (slotOf s note) ≡ o → (a : Answer) × AskRow s note a
   ask-some false o p q = (_, ask5 (unlisted-is s note .0 p))
   ask-some true false p q = (_, ask6 (listed-is s note .0 p) q)
   ask-some true true p q = (_, ask0 (listed-is s note .0 p) q)

@@ -9,7 +9,7 @@ use lib.Dec.{eqb}
 use Rattle.same.proofs.Tests.{first, second, both}
 use Rattle.hash.specs.State.{inOrder}
 use Rattle.hash.proofs.State.{isFresh-fresh, fresh-only}
-use Rattle.session.specs.Rules.{obeys}
+use Rattle.rules.specs.Rules.{obeys}
 use Rattle.session.specs.Slots.{waiting, opened, shut, isDecided, stateInOrder, slotInOrder, takenOf}
 use Rattle.session.specs.Promises.{Decided, StateInOrder}
 use Rattle.session.specs.declared.Slot.{Slot}
@@ -45,22 +45,22 @@ module _ (s : Slot) where
   state-test (inl (w, o, l)) = simp (eq-eqb _ _ w, o, lt-ltb _ _ l)
   state-test (inr (d, f)) = simp (ne-eqb _ _ (not-waiting s d), decided-test _ d) (rw f isFresh-fresh)
 
-  pub slot-in-order-is : (slotInOrder s ≡ true) ↔ ((obeys (s .line) ≡ true) × StateInOrder s)
+  pub slot-in-order-is : (slotInOrder s ≡ true) ↔ ((obeys (s .sample) ≡ true) × StateInOrder s)
   unfolding slotInOrder
   slot-in-order-is = (
-    λ h. (first (obeys (s .line)) _ h, state-then _ _ refl refl (second (obeys (s .line)) _ h)),
+    λ h. (first (obeys (s .sample)) _ h, state-then _ _ refl refl (second (obeys (s .sample)) _ h)),
     λ h. both _ _ (h .0) (state-test (h .1)),
   )
 
   -- a slot in order waits, with room for more, or is decided
-  pub when-waiting : slotInOrder s ≡ true → s .status ≡ waiting → (inOrder (s .state) ≡ true) × (s .state .total < s .line .length)
+  pub when-waiting : slotInOrder s ≡ true → s .status ≡ waiting → (inOrder (s .state) ≡ true) × (s .state .total < s .sample .length)
   when-waiting h w = fit (slot-in-order-is .0 h .1)
     where
-      fit : StateInOrder s → (inOrder (s .state) ≡ true) × (s .state .total < s .line .length)
+      fit : StateInOrder s → (inOrder (s .state) ≡ true) × (s .state .total < s .sample .length)
       fit (inl p) = (p .1, p .2)
       fit (inr p) = absurd (not-waiting s (p .0) w)
 
-  pub has-room : slotInOrder s ≡ true → s .status ≡ waiting → s .state .total < s .line .length
+  pub has-room : slotInOrder s ≡ true → s .status ≡ waiting → s .state .total < s .sample .length
   has-room h w = when-waiting h w .1
 
   pub else-decided : slotInOrder s ≡ true → (s .status ≡ waiting → ⊥) → Decided s

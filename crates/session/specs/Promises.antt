@@ -1,15 +1,15 @@
 -- What the crate promises, from ANY stored session. All of it is proved in proofs/Kept.antt.
-use Prim.Native.Nat.{ℕ, _+_, _-_, _/_, _%_, _≤_, _<_}
+use Prim.Native.Nat.{ℕ, _+_, _-_, _≤_, _<_}
 use mathlib.Core.Path.{_≡_}
 use mathlib.Core.Logic.{_↔_, _⊎_}
 use mathlib.Core.List.{List, []}
 use mathlib.Core.Bool.{true, false}
-use lib.ListN.{length, set}
+use lib.ListN.{length, getD, set}
 use Rattle.refusal.specs.Table.{accepted, unlisted, slot-not-in-order, decided, past-length}
 use Rattle.hash.specs.State.{fresh, inOrder}
-use Rattle.session.specs.Rules.{lengthRule, loopRule, obeys}
-use Rattle.session.specs.Slots.{absent, waiting, opened, shut, slotInOrder, takenOf}
-use Rattle.session.specs.Deliver.{nothing, asItStands, withPiece, deliverTo, slotOf, onSlot, deliver, ask}
+use Rattle.rules.specs.Rules.{obeys}
+use Rattle.session.specs.Slots.{absent, waiting, opened, shut, slotInOrder, takenOf, emptySlot}
+use Rattle.session.specs.Deliver.{bareRefusal, asItStands, withPiece, deliverTo, slotOf, onNote, deliver, ask}
 use Rattle.session.specs.declared.Slot.{Slot}
 use Rattle.session.specs.declared.Session.{Session}
 use Rattle.session.specs.declared.Answer.{Answer}
@@ -23,7 +23,7 @@ Decided s = (s .status ≡ opened) ⊎ (s .status ≡ shut)
 -- "waiting, its hash state is in order with total below the length; decided, its hash state is fresh"
 abbrev pub StateInOrder : Slot → Type 0
 StateInOrder s =
-    ((s .status ≡ waiting) × (inOrder (s .state) ≡ true) × (s .state .total < s .line .length)) ⊎ (Decided s × (s .state ≡ fresh))
+    ((s .status ≡ waiting) × (inOrder (s .state) ≡ true) × (s .state .total < s .sample .length)) ⊎ (Decided s × (s .state ≡ fresh))
 
 -- "note 0, above 32, or unlisted", and the others
 abbrev pub Unlisted : Session → ℕ → Type 0
@@ -35,19 +35,19 @@ Listed s note = (1 ≤ note) × (note ≤ 32) × (slotOf s note .status ≡ abse
 -- The rows of the table for a delivery, in its order: when a number is given; what is returned and left.
 pub data Row (s : Session) (note : ℕ) (piece : List ℕ) : Delivered → Type 0 where
   -- 5: "note 0, above 32, or unlisted"; "status 0, taken 0; session same"
-  row5 : Unlisted s note → Row s note piece (record { answer = nothing unlisted; session = s })
+  row5 : Unlisted s note → Row s note piece (record { answer = bareRefusal unlisted; session = s })
   -- 6: "slot not in order"; "status 0, taken 0; session same"
-  row6 : Listed s note → slotInOrder (slotOf s note) ≡ false → Row s note piece (record { answer = nothing slot-not-in-order; session = s })
+  row6 : Listed s note → slotInOrder (slotOf s note) ≡ false → Row s note piece (record { answer = bareRefusal slot-not-in-order; session = s })
   -- 7: "delivery to a decided note, empty piece too"; "status and taken as they stood; session same"
   row7 : Listed s note → slotInOrder (slotOf s note) ≡ true → Decided (slotOf s note)
       → Row s note piece (record { answer = asItStands decided (slotOf s note); session = s })
   -- 8: "taken + piece exceeds length"; "as they stood; nothing of the piece taken"
   row8 : Listed s note → slotInOrder (slotOf s note) ≡ true → slotOf s note .status ≡ waiting
-      → slotOf s note .line .length < takenOf (slotOf s note) + length piece
+      → slotOf s note .sample .length < takenOf (slotOf s note) + length piece
       → Row s note piece (record { answer = asItStands past-length (slotOf s note); session = s })
   -- 0: "an accepted call": the piece is taken, and the slot answers as it then stands
   row0 : Listed s note → slotInOrder (slotOf s note) ≡ true → slotOf s note .status ≡ waiting
-      → takenOf (slotOf s note) + length piece ≤ slotOf s note .line .length
+      → takenOf (slotOf s note) + length piece ≤ slotOf s note .sample .length
       → Row s note piece
       (record {
         answer = asItStands accepted (withPiece (slotOf s note) piece);
@@ -56,22 +56,20 @@ pub data Row (s : Session) (note : ℕ) (piece : List ℕ) : Delivered → Type 
 
 -- Those for asking, "with refusals 5 and 6 only".
 pub data AskRow (s : Session) (note : ℕ) : Answer → Type 0 where
-  ask5 : Unlisted s note → AskRow s note (nothing unlisted)
-  ask6 : Listed s note → slotInOrder (slotOf s note) ≡ false → AskRow s note (nothing slot-not-in-order)
+  ask5 : Unlisted s note → AskRow s note (bareRefusal unlisted)
+  ask6 : Listed s note → slotInOrder (slotOf s note) ≡ false → AskRow s note (bareRefusal slot-not-in-order)
   ask0 : Listed s note → slotInOrder (slotOf s note) ≡ true → AskRow s note (asItStands accepted (slotOf s note))
 
 -- two operations on different notes, in either order: the same answers, and the same session at the end
 pub record Apart (s : Session) (m n : ℕ) (f g : Slot → Step) : Type 0 where
-  pub answers : onSlot (onSlot s m f .session) n g .answer ≡ onSlot s n g .answer
-  pub sessions : onSlot (onSlot s m f .session) n g .session ≡ onSlot (onSlot s n g .session) m f .session
+  pub answers : onNote (onNote s m f .session) n g .answer ≡ onNote s n g .answer
+  pub sessions : onNote (onNote s m f .session) n g .session ≡ onNote (onNote s n g .session) m f .session
 
 pub record Promises : Type 0 where
-  -- "Length is even, 2 to 4294967294"
-  pub lengths : (bytes : ℕ) → (lengthRule bytes ≡ true) ↔ ((bytes % 2 ≡ 0) × (2 ≤ bytes) × (bytes ≤ 4294967294))
-  -- "The loop obeys start < end <= length/2"
-  pub loops : (bytes start end : ℕ) → (loopRule bytes start end ≡ true) ↔ ((start < end) × (end ≤ bytes / 2))
+  -- "32 slots, one a note": the first is note 1's
+  pub places : (s : Session) (note : ℕ) → 1 ≤ note → note ≤ 32 → slotOf s note ≡ getD (s .slots) (note - 1) emptySlot
   -- "A listed slot is in order when its record obeys rules 3 and 4, and" its state fits its status
-  pub inOrder : (s : Slot) → (slotInOrder s ≡ true) ↔ ((obeys (s .line) ≡ true) × StateInOrder s)
+  pub inOrder : (s : Slot) → (slotInOrder s ≡ true) ↔ ((obeys (s .sample) ≡ true) × StateInOrder s)
   -- "Given exactly when": what a delivery answers and leaves is a row of the table that holds, and no other row holds
   pub table : (s : Session) (note : ℕ) (piece : List ℕ) (d : Delivered) → (d ≡ deliver s note piece) ↔ Row s note piece d
   pub askTable : (s : Session) (note : ℕ) (a : Answer) → (a ≡ ask s note) ↔ AskRow s note a
@@ -84,6 +82,6 @@ pub record Promises : Type 0 where
   pub counted : (s : Session) (note : ℕ) (piece : List ℕ) → deliver s note piece .answer .no ≡ accepted
       → deliver s note piece .answer .taken ≡ takenOf (slotOf s note) + length piece
   -- a note keeps its record, loop and digest, whatever is delivered to it
-  pub recordKept : (s : Slot) (piece : List ℕ) → deliverTo s piece .slot .line ≡ s .line
+  pub recordKept : (s : Slot) (piece : List ℕ) → deliverTo s piece .slot .sample ≡ s .sample
   -- "A delivery looks at its own slot only", and so does any other operation on one note
   pub apart : (s : Session) (m n : ℕ) (f g : Slot → Step) → (m ≡ n → ⊥) → Apart s m n f g

@@ -4,8 +4,8 @@ use mathlib.Core.Bool.{Bool, false, cond, _&&_, _||_}
 use lib.Dec.{ltb, eqb}
 use lib.ListN.{replicate}
 use Rattle.hash.specs.State.{fresh, isFresh, inOrder}
-use Rattle.session.specs.Rules.{obeys}
-use Rattle.session.specs.declared.Record.{Record}
+use Rattle.rules.specs.Rules.{obeys, zeroRecord}
+use Rattle.rules.specs.declared.Record.{Record}
 use Rattle.session.specs.declared.Slot.{Slot}
 use Rattle.session.specs.declared.Session.{Session}
 
@@ -29,24 +29,24 @@ isDecided status = eqb status opened || eqb status shut
 -- "waiting, its hash state is in order with total below the length; decided, its hash state is fresh". "Any other status counts as listed and not in order."
 unfoldable pub stateInOrder : Slot → Bool
 stateInOrder s =
-    cond (eqb (s .status) waiting) (inOrder (s .state) && ltb (s .state .total) (s .line .length))
+    cond (eqb (s .status) waiting) (inOrder (s .state) && ltb (s .state .total) (s .sample .length))
     (cond (isDecided (s .status)) (isFresh (s .state)) false)
 
 -- "A listed slot is in order when its record obeys rules 3 and 4, and" its state fits its status
 unfoldable pub slotInOrder : Slot → Bool
-slotInOrder s = obeys (s .line) && stateInOrder s
+slotInOrder s = obeys (s .sample) && stateInOrder s
 
 -- bytes taken: those in the hash state, "the length once decided"
 unfoldable pub takenOf : Slot → ℕ
-takenOf s = cond (eqb (s .status) waiting) (s .state .total) (s .line .length)
+takenOf s = cond (eqb (s .status) waiting) (s .state .total) (s .sample .length)
 
 -- "the sheet reader gives such a slot record zero and a fresh state"
 unfoldable pub emptySlot : Slot
-emptySlot = record { line = record { length = 0; start = 0; end = 0; digest = replicate 32 0 }; state = fresh; status = absent }
+emptySlot = record { sample = zeroRecord; state = fresh; status = absent }
 
 -- "each waiting, with its own line's record and a fresh state"
 unfoldable pub waitingSlot : Record → Slot
-waitingSlot r = record { line = r; state = fresh; status = waiting }
+waitingSlot r = record { sample = r; state = fresh; status = waiting }
 
 -- a session with no note listed
 unfoldable pub emptySession : Session

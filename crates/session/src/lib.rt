@@ -1,30 +1,19 @@
 // The loading session.
 ghost use mathlib.Core.Path.{_≡_};
-ghost use Rattle.session.specs.Rules.{lengthRule, loopRule, obeys};
 ghost use Rattle.session.specs.Slots.{isDecided, stateInOrder, slotInOrder, takenOf, emptySlot, waitingSlot, emptySession};
-ghost use Rattle.session.specs.Deliver.{nothing, asItStands, judged, withPiece, deliverTo, askOf, deliver, ask};
-ghost use Rattle.session.specs.Places.{isNote, isListedAt, placeOf, deliverAt, askAt};
+ghost use Rattle.session.specs.Deliver.{bareRefusal, asItStands, decidedSlot, withPiece, deliverTo, askOf, isListed, deliverAt, askAt, placeOf, deliver, ask};
 use hash::Hash;
 use refusal::ACCEPTED;
 use refusal::DECIDED;
 use refusal::PAST_LENGTH;
 use refusal::SLOT_NOT_IN_ORDER;
 use refusal::UNLISTED;
-use units::Bytes;
-
-// What a sheet's line says of a note: length in bytes, loop start and end in frames, digest.
-#[repr(C)]
-pub struct Record {
-    pub length: u32,
-    pub start: u32,
-    pub end: u32,
-    pub digest: [u8; 32],
-}
+use rules::Record;
 
 // One note's place in the session.
 #[repr(C)]
 pub struct Slot {
-    pub line: Record,
+    pub sample: Record,
     pub state: Hash,
     pub status: u8,
 }
@@ -44,7 +33,6 @@ pub struct Answer {
 }
 
 // What an operation on one slot answers, and the slot after it.
-#[repr(C)]
 pub struct Step {
     pub answer: Answer,
     pub slot: Slot,
@@ -66,39 +54,6 @@ pub const OPENED: u8 = 2;
 
 pub const SHUT: u8 = 3;
 
-// Notes are 1..32.
-pub const NOTES: u64 = 32;
-
-// A sample's bytes.
-const SHORTEST: u32 = 2;
-
-const LONGEST: u32 = 4294967294;
-
-// Rule 3, on a length in bytes.
-pub fn length_rule(bytes: u32) -> bool
-    ensures { λ r. ⌜ r ≡ lengthRule bytes ⌝ }
-{
-    bytes % 2 == 0 && (SHORTEST <= bytes && bytes <= LONGEST)
-}
-
-// Rule 4, on a length in bytes and a loop in frames. A byte that is no whole frame is left out: rule 3 refuses it.
-pub fn loop_rule(bytes: u32, start: u32, end: u32) -> bool
-    ensures { λ r. ⌜ r ≡ loopRule bytes start end ⌝ }
-{
-    let whole = Bytes((bytes - bytes % 2) as u64);
-    let sample = whole.frames();
-    let frames = sample.frames.0;
-    start < end && (end as u64) <= frames
-}
-
-// Rules 3 and 4.
-pub fn obeys(r: Record) -> bool
-    ensures { λ b. ⌜ b ≡ obeys r ⌝ }
-{
-    let bytes = r.length;
-    length_rule(bytes) && loop_rule(bytes, r.start, r.end)
-}
-
 fn is_decided(status: u8) -> bool
     ensures { λ r. ⌜ r ≡ isDecided status ⌝ }
 {
@@ -113,8 +68,8 @@ fn state_in_order(s: Slot) -> bool
     let state = s.state;
     if status == WAITING {
         let total = state.total;
-        let line = s.line;
-        return state.in_order() && total < line.length as u64;
+        let sample = s.sample;
+        return state.in_order() && total < sample.length as u64;
     }
     if is_decided(status) {
         return state.is_fresh();
@@ -125,8 +80,8 @@ fn state_in_order(s: Slot) -> bool
 fn slot_in_order(s: Slot) -> bool
     ensures { λ r. ⌜ r ≡ slotInOrder s ⌝ }
 {
-    let line = s.line;
-    obeys(line) && state_in_order(s)
+    let sample = s.sample;
+    rules::obeys(sample) && state_in_order(s)
 }
 
 // Bytes taken.
@@ -138,8 +93,8 @@ fn taken_of(s: Slot) -> u64
         let state = s.state;
         state.total
     } else {
-        let line = s.line;
-        line.length as u64
+        let sample = s.sample;
+        sample.length as u64
     }
 }
 
@@ -147,14 +102,10 @@ fn taken_of(s: Slot) -> u64
 pub fn empty_slot() -> Slot
     ensures { λ r. ⌜ r ≡ emptySlot ⌝ }
 {
+    let sample = rules::zero_record();
     let state = Hash::fresh();
     Slot {
-        line: Record {
-            length: 0,
-            start: 0,
-            end: 0,
-            digest: [0; 32],
-        },
+        sample,
         state,
         status: ABSENT,
     }
@@ -166,7 +117,7 @@ pub fn waiting_slot(r: Record) -> Slot
 {
     let state = Hash::fresh();
     Slot {
-        line: r,
+        sample: r,
         state,
         status: WAITING,
     }
@@ -181,8 +132,8 @@ pub fn empty_session() -> Session
 }
 
 // A refusal that tells nothing of a slot.
-fn nothing(number: u8) -> Answer
-    ensures { λ r. ⌜ r ≡ nothing number ⌝ }
+fn bare_refusal(number: u8) -> Answer
+    ensures { λ r. ⌜ r ≡ bareRefusal number ⌝ }
 {
     Answer {
         no: number,
@@ -203,16 +154,16 @@ fn as_it_stands(number: u8, s: Slot) -> Answer
 }
 
 // The note is decided: h has all of its bytes.
-fn judged(s: Slot, h: Hash) -> Slot
-    ensures { λ r. ⌜ r ≡ judged s h ⌝ }
+fn decided_slot(s: Slot, h: Hash) -> Slot
+    ensures { λ r. ⌜ r ≡ decidedSlot s h ⌝ }
 {
-    let line = s.line;
-    let digest = line.digest;
+    let sample = s.sample;
+    let digest = sample.digest;
     let compared = h.matches(&digest);
     let state = Hash::fresh();
     let status = if compared.same { OPENED } else { SHUT };
     Slot {
-        line,
+        sample,
         state,
         status,
     }
@@ -222,18 +173,18 @@ fn judged(s: Slot, h: Hash) -> Slot
 fn with_piece(s: Slot, piece: &[u8]) -> Slot
     ensures { λ r. ⌜ r ≡ withPiece s (now (piece .entry)) ⌝ }
 {
-    let line = s.line;
+    let sample = s.sample;
     let before = s.state;
     let updated = before.update(piece);
     let state = updated.state;
-    if state.total < line.length as u64 {
+    if state.total < sample.length as u64 {
         Slot {
-            line,
+            sample,
             state,
             status: WAITING,
         }
     } else {
-        judged(s, state)
+        decided_slot(s, state)
     }
 }
 
@@ -242,7 +193,7 @@ fn deliver_to(s: Slot, piece: &[u8]) -> Step
     ensures { λ r. ⌜ r ≡ deliverTo s (now (piece .entry)) ⌝ }
 {
     if !slot_in_order(s) {
-        let answer = nothing(SLOT_NOT_IN_ORDER);
+        let answer = bare_refusal(SLOT_NOT_IN_ORDER);
         return Step { answer, slot: s };
     }
     let status = s.status;
@@ -251,9 +202,9 @@ fn deliver_to(s: Slot, piece: &[u8]) -> Step
         return Step { answer, slot: s };
     }
     // A sum could wrap, a difference cannot: a waiting slot in order has taken less than its length.
-    let line = s.line;
+    let sample = s.sample;
     let state = s.state;
-    let room = line.length as u64 - state.total;
+    let room = sample.length as u64 - state.total;
     if piece.len() as u64 > room {
         let answer = as_it_stands(PAST_LENGTH, s);
         return Step { answer, slot: s };
@@ -270,21 +221,15 @@ fn ask_of(s: Slot) -> Answer
     if slot_in_order(s) {
         as_it_stands(ACCEPTED, s)
     } else {
-        nothing(SLOT_NOT_IN_ORDER)
+        bare_refusal(SLOT_NOT_IN_ORDER)
     }
-}
-
-fn is_note(note: u64) -> bool
-    ensures { λ r. ⌜ r ≡ isNote note ⌝ }
-{
-    1 <= note && note <= NOTES
 }
 
 // Where a note's slot stands, and 0 for a number that is no note.
 pub fn place_of(note: u64) -> usize
     ensures { λ r. ⌜ r ≡ placeOf note ⌝ }
 {
-    if is_note(note) {
+    if rules::is_note(note) {
         (note - 1) as usize
     } else {
         0
@@ -292,21 +237,21 @@ pub fn place_of(note: u64) -> usize
 }
 
 // Whether the number is a note and the slot at its place is listed.
-fn is_listed_at(s: Slot, note: u64) -> bool
-    ensures { λ r. ⌜ r ≡ isListedAt s note ⌝ }
+fn is_listed(s: Slot, note: u64) -> bool
+    ensures { λ r. ⌜ r ≡ isListed s note ⌝ }
 {
     let status = s.status;
-    is_note(note) && status != ABSENT
+    rules::is_note(note) && status != ABSENT
 }
 
 // A delivery to the slot at a note's place.
 pub fn deliver_at(s: Slot, note: u64, piece: &[u8]) -> Step
     ensures { λ r. ⌜ r ≡ deliverAt s note (now (piece .entry)) ⌝ }
 {
-    if is_listed_at(s, note) {
+    if is_listed(s, note) {
         deliver_to(s, piece)
     } else {
-        let answer = nothing(UNLISTED);
+        let answer = bare_refusal(UNLISTED);
         Step { answer, slot: s }
     }
 }
@@ -315,10 +260,10 @@ pub fn deliver_at(s: Slot, note: u64, piece: &[u8]) -> Step
 pub fn ask_at(s: Slot, note: u64) -> Answer
     ensures { λ r. ⌜ r ≡ askAt s note ⌝ }
 {
-    if is_listed_at(s, note) {
+    if is_listed(s, note) {
         ask_of(s)
     } else {
-        nothing(UNLISTED)
+        bare_refusal(UNLISTED)
     }
 }
 

@@ -1,7 +1,2 @@
-pub mod Tests
-pub mod Marks
-pub mod Numbers
-pub mod Digests
-pub mod Lines
 pub mod Verdicts
-pub mod Listing
+pub mod Filling

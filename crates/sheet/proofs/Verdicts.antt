@@ -10,39 +10,13 @@ use lib.Dec.{leb, ltb, eqb}
 use lib.ListN.{length}
 use Rattle.refusal.specs.Table.{accepted, form, count-or-note, bad-length, bad-loop}
 use Rattle.same.proofs.Tests.{second}
-use Rattle.session.specs.Rules.{lengthRule, loopRule}
-use Rattle.session.specs.Places.{isNote}
-use Rattle.sheet.specs.Reading.{nothing, noteLine, headerLine}
-use Rattle.sheet.specs.Judging.{countRule, noteRule, headerNumber, entryNumber, noteNumber, allGood, badLine, judgedNotes, judged}
-use Rattle.sheet.specs.declared.Field.{Field}
-use Rattle.sheet.specs.declared.Entry.{Entry}
-use Rattle.sheet.specs.declared.NoteLine.{NoteLine}
-
--- the count
-pub count-low : (count : ℕ) → count < 1 → countRule count ≡ false
-unfolding countRule
-count-low count h = simp (lt-leb 1 count h)
-
-pub count-by : (count : ℕ) → 1 ≤ count → countRule count ≡ leb count 32
-unfolding countRule
-count-by count h = simp (le-leb 1 count h)
-
-pub count-most : (count : ℕ) → countRule count ≡ true → count ≤ 32
-unfolding countRule
-count-most count h = leb-true _ _ (second (leb 1 count) (leb count 32) h)
-
--- a note
-pub note-low : (last note : ℕ) → note < 1 → noteRule last note ≡ false
-unfolding noteRule isNote
-note-low last note h = simp (lt-leb 1 note h)
-
-pub note-high : (last note : ℕ) → 1 ≤ note → 32 < note → noteRule last note ≡ false
-unfolding noteRule isNote
-note-high last note h k = simp (le-leb 1 note h, lt-leb note 32 k)
-
-pub note-by : (last note : ℕ) → 1 ≤ note → note ≤ 32 → noteRule last note ≡ ltb last note
-unfolding noteRule isNote
-note-by last note h k = simp (le-leb 1 note h, le-leb note 32 k)
+use Rattle.rules.proofs.Rules.{count-rule-is}
+use Rattle.rules.specs.Rules.{countRule, noteRule, lengthRule, loopRule}
+use Rattle.lines.specs.Reading.{nothing, noteLine, headerLine}
+use Rattle.sheet.specs.Judging.{headerNumber, entryNumber, noteNumber, allGood, badLine, judgedNotes, judged}
+use Rattle.lines.specs.declared.Field.{Field}
+use Rattle.lines.specs.declared.Entry.{Entry}
+use Rattle.lines.specs.declared.NoteLine.{NoteLine}
 
 -- the number of a header
 module _ (h : Field) where
@@ -66,16 +40,16 @@ module _ (last : ℕ) (e : Entry) where
   entry-note bad = simp bad
 
   module _ (note : noteRule last (e .note) ≡ true) where
-    pub entry-length : lengthRule (e .line .length) ≡ false → entryNumber last e ≡ bad-length
+    pub entry-length : lengthRule (e .sample .length) ≡ false → entryNumber last e ≡ bad-length
     unfolding entryNumber
     entry-length bad = simp (note, bad)
 
-    module _ (bytes : lengthRule (e .line .length) ≡ true) where
-      pub entry-loop : loopRule (e .line .length) (e .line .start) (e .line .end) ≡ false → entryNumber last e ≡ bad-loop
+    module _ (bytes : lengthRule (e .sample .length) ≡ true) where
+      pub entry-loop : loopRule (e .sample .length) (e .sample .start) (e .sample .end) ≡ false → entryNumber last e ≡ bad-loop
       unfolding entryNumber
       entry-loop bad = simp (note, bytes, bad)
 
-      pub entry-good : loopRule (e .line .length) (e .line .start) (e .line .end) ≡ true → entryNumber last e ≡ accepted
+      pub entry-good : loopRule (e .sample .length) (e .sample .start) (e .sample .end) ≡ true → entryNumber last e ≡ accepted
       unfolding entryNumber
       entry-good good = simp (note, bytes, good)
 
@@ -94,7 +68,7 @@ unfolding headerNumber
 most-notes h number e good = go (eqb (h .wanted) nothing) (countRule (h .value)) refl refl
   where
     go : (p q : Bool) → eqb (h .wanted) nothing ≡ p → countRule (h .value) ≡ q → h .value ≤ 32
-    go p true ep eq = count-most (h .value) eq
+    go p true ep eq = count-rule-is (h .value) .0 eq .1
     go true false ep eq = let no : number ≡ 2 = e ∙ simp (ep, eq) in absurd (omega arith)
     go false false ep eq = let no : number ≡ 1 = e ∙ simp (ep, eq) in absurd (omega arith)
 

@@ -1,28 +1,20 @@
 -- Judging a rank sheet: document 01, "The rank sheet". "Lines are judged in order and the first bad one decides."
 use Prim.Native.Nat.{ℕ, zero, suc, _+_}
 use mathlib.Core.List.{List, [], _∷_}
-use mathlib.Core.Bool.{Bool, cond, _&&_}
-use lib.Dec.{leb, ltb, eqb}
+use mathlib.Core.Bool.{cond}
+use lib.Dec.{ltb, eqb}
 use lib.ListN.{length, set}
 use Rattle.refusal.specs.Table.{accepted, form, count-or-note, bad-length, bad-loop}
-use Rattle.session.specs.Rules.{lengthRule, loopRule}
+use Rattle.rules.specs.Rules.{countRule, noteRule, lengthRule, loopRule}
 use Rattle.session.specs.Slots.{waitingSlot, emptySession}
-use Rattle.session.specs.Places.{isNote, placeOf}
+use Rattle.session.specs.Deliver.{placeOf}
 use Rattle.session.specs.declared.Session.{Session}
-use Rattle.sheet.specs.Reading.{nothing, noteLine, headerLine}
-use Rattle.sheet.specs.declared.Field.{Field}
-use Rattle.sheet.specs.declared.Entry.{Entry}
-use Rattle.sheet.specs.declared.NoteLine.{NoteLine}
+use Rattle.lines.specs.Reading.{nothing, noteLine, headerLine}
+use Rattle.lines.specs.declared.Field.{Field}
+use Rattle.lines.specs.declared.Entry.{Entry}
+use Rattle.lines.specs.declared.NoteLine.{NoteLine}
 use Rattle.sheet.specs.declared.Verdict.{Verdict}
 use Rattle.sheet.specs.declared.Sheet.{Sheet}
-
--- "the number of notes n, 1..32"
-unfoldable pub countRule : ℕ → Bool
-countRule count = leb 1 count && leb count 32
-
--- "Notes are 1..32, rising strictly": above the note of the line before, or above 0
-unfoldable pub noteRule : ℕ → ℕ → Bool
-noteRule last note = isNote note && ltb last note
 
 -- "Within a line: form (1); then count or note (2); length (3); loop (4)"
 unfoldable pub headerNumber : Field → ℕ
@@ -31,7 +23,7 @@ headerNumber h = cond (eqb (h .wanted) nothing) (cond (countRule (h .value)) acc
 unfoldable pub entryNumber : ℕ → Entry → ℕ
 entryNumber last e =
     cond (noteRule last (e .note))
-    (cond (lengthRule (e .line .length)) (cond (loopRule (e .line .length) (e .line .start) (e .line .end)) accepted bad-loop) bad-length)
+    (cond (lengthRule (e .sample .length)) (cond (loopRule (e .sample .length) (e .sample .start) (e .sample .end)) accepted bad-loop) bad-length)
     count-or-note
 
 unfoldable pub noteNumber : ℕ → NoteLine → ℕ
@@ -64,13 +56,13 @@ entriesAt zero text at = []
 entriesAt (suc notes) text at = let l = noteLine text at in l .entry ∷ entriesAt notes text (l .at)
 
 -- the session with the notes of more entries listed, "each waiting, with its own line's record and a fresh state"
-unfoldable pub listed : Session → List Entry → Session
-listed s [] = s
-listed s (e ∷ es) = listed (record { slots = set (s .slots) (placeOf (e .note)) (waitingSlot (e .line)) }) es
+unfoldable pub withNotes : Session → List Entry → Session
+withNotes s [] = s
+withNotes s (e ∷ es) = withNotes (record { slots = set (s .slots) (placeOf (e .note)) (waitingSlot (e .sample)) }) es
 
 -- "An accepted sheet's session lists exactly the notes of its lines"
 unfoldable pub sessionOf : List ℕ → Session
-sessionOf text = let h = headerLine text in listed emptySession (entriesAt (h .value) text (h .at))
+sessionOf text = let h = headerLine text in withNotes emptySession (entriesAt (h .value) text (h .at))
 
 -- what reading a sheet answers
 unfoldable pub sheetIs : Verdict → Session → Sheet

@@ -10,10 +10,10 @@ use lib.ListN.{length, getD, drop}
 use lib.Seq.{drop-cons}
 use Rattle.hex.specs.Digits.{digitOf}
 use Rattle.hex.proofs.Digits.{digit-value, digit-below, value-digit}
-use Rattle.sheet.specs.Reading.{nothing, digit, digestIs, digestFault, digitAt, pairAt, digestFrom, digestAt}
-use Rattle.sheet.specs.declared.DigestField.{DigestField}
-use Rattle.sheet.proofs.Digests.{digit-before, pair-none, pair-one, pair-both}
-use Rattle.sheet.proofs.Tests.{below-or-not}
+use Rattle.lines.specs.Reading.{nothing, digit, digestIs, digestFault, digitAt, pairAt, digestFrom, digestAt}
+use Rattle.lines.specs.declared.DigestField.{DigestField}
+use Rattle.lines.proofs.Digests.{digit-before, pair-none, pair-one, pair-both}
+use Rattle.lines.proofs.Tests.{below-or-not}
 use Rattle.sheet_promises.specs.Grammar.{Pairs, no-pair, pair, IsDigest}
 use Rattle.sheet_promises.proofs.Standing.{behind, stands-byte}
 

@@ -8,10 +8,10 @@ use native.Mathlib.Omega.{arith}
 use borrow.Author.Tests.{eqb-true, eqb-false}
 use lib.Dec.{eqb}
 use lib.ListN.{length, drop, length-append}
-use Rattle.sheet.specs.Reading.{nothing, separator, fieldIs, fieldFault, isFigure, hasAt, numberFrom, numberAt, fieldAt}
-use Rattle.sheet.specs.declared.Field.{Field}
-use Rattle.sheet.proofs.Lines.{field-none, field-open, field-closed}
-use Rattle.sheet.proofs.Tests.{either}
+use Rattle.lines.specs.Reading.{nothing, separator, fieldIs, fieldFault, isFigure, hasAt, numberFrom, numberAt, fieldAt}
+use Rattle.lines.specs.declared.Field.{Field}
+use Rattle.lines.proofs.Lines.{field-none, field-open, field-closed}
+use Rattle.lines.proofs.Tests.{either}
 use Rattle.sheet_promises.specs.Grammar.{IsField}
 use Rattle.sheet_promises.proofs.Standing.{behind, stands-has, has-stands}
 use Rattle.sheet_promises.proofs.Numbers.{number-read, begins}

@@ -7,7 +7,7 @@ use borrow.Author.Tests.{eq-eqb, ne-eqb}
 use Rattle.refusal.specs.Table.{accepted}
 use Rattle.session.specs.Slots.{emptySession}
 use Rattle.sheet.specs.Judging.{badLine, judged, sessionOf, sheetIs, sheetOf}
-use Rattle.sheet.specs.declared.Entry.{Entry}
+use Rattle.lines.specs.declared.Entry.{Entry}
 use Rattle.sheet.specs.declared.Verdict.{Verdict}
 use Rattle.sheet_promises.specs.Grammar.{IsNumber, IsSheet}
 use Rattle.sheet_promises.specs.Faults.{Refused}

@@ -7,14 +7,14 @@ use mathlib.Core.Logic.{⊎-elim}
 use native.Mathlib.Nat.{add-zero}
 use native.Mathlib.Omega.{arith}
 use lib.ListN.{length, drop, length-append}
-use Rattle.sheet.specs.Reading.{nothing, word, separator, tab, lf, fieldIs, fieldFault, digestIs, hasAt, markAt, wordAt, fieldAt, digestAt, isFigure, lineIs, lineFault, noteLine, headerLine}
-use Rattle.sheet.specs.declared.Field.{Field}
-use Rattle.sheet.specs.declared.DigestField.{DigestField}
-use Rattle.sheet.specs.declared.Entry.{Entry}
-use Rattle.sheet.specs.declared.NoteLine.{NoteLine}
-use Rattle.sheet.proofs.Marks.{mark-there, mark-missing}
-use Rattle.sheet.proofs.Lines.{no-note, no-length, no-start, no-end, no-digest, no-close, whole-line, no-rank, no-first, no-edition, no-second, header-count}
-use Rattle.sheet.proofs.Tests.{either}
+use Rattle.lines.specs.Reading.{nothing, word, separator, tab, lf, fieldIs, fieldFault, digestIs, hasAt, markAt, wordAt, fieldAt, digestAt, isFigure, lineIs, lineFault, noteLine, headerLine}
+use Rattle.lines.specs.declared.Field.{Field}
+use Rattle.lines.specs.declared.DigestField.{DigestField}
+use Rattle.lines.specs.declared.Entry.{Entry}
+use Rattle.lines.specs.declared.NoteLine.{NoteLine}
+use Rattle.lines.proofs.Marks.{mark-there, mark-missing}
+use Rattle.lines.proofs.Lines.{no-note, no-length, no-start, no-end, no-digest, no-close, whole-line, no-rank, no-first, no-edition, no-second, header-count}
+use Rattle.lines.proofs.Tests.{either}
 use Rattle.sheet_promises.specs.Grammar.{IsLine, IsHeader}
 use Rattle.sheet_promises.proofs.Standing.{behind, stands-has, has-stands}
 use Rattle.sheet_promises.proofs.Fields.{surely, field-read, field-stands}
@@ -44,10 +44,10 @@ line-read text piece rest at e l stands =
     let place : p5 + 1 ≡ at + length piece = omega (arith, simp length-append at (ap length (l .whole))) in
     sym (whole-line text at
     (fieldIs (e .note) p1) (sym (field-read text (l .note) _ at (e .note) tab refl (l .is-note) (s0 ∙ append-assoc (l .note) _ rest))) refl
-    (fieldIs (e .line .length) p2) (sym (field-read text (l .bytes) _ p1 (e .line .length) tab refl (l .is-length) (s1 ∙ append-assoc (l .bytes) _ rest))) refl
-    (fieldIs (e .line .start) p3) (sym (field-read text (l .start) _ p2 (e .line .start) tab refl (l .is-start) (s2 ∙ append-assoc (l .start) _ rest))) refl
-    (fieldIs (e .line .end) p4) (sym (field-read text (l .end) _ p3 (e .line .end) tab refl (l .is-end) (s3 ∙ append-assoc (l .end) _ rest))) refl
-    (digestIs (e .line .digest) p5) (sym (digest-read text (l .digest) (e .line .digest) _ p4 (l .is-digest) (s4 ∙ append-assoc (l .digest) _ rest))) refl
+    (fieldIs (e .sample .length) p2) (sym (field-read text (l .bytes) _ p1 (e .sample .length) tab refl (l .is-length) (s1 ∙ append-assoc (l .bytes) _ rest))) refl
+    (fieldIs (e .sample .start) p3) (sym (field-read text (l .start) _ p2 (e .sample .start) tab refl (l .is-start) (s2 ∙ append-assoc (l .start) _ rest))) refl
+    (fieldIs (e .sample .end) p4) (sym (field-read text (l .end) _ p3 (e .sample .end) tab refl (l .is-end) (s3 ∙ append-assoc (l .end) _ rest))) refl
+    (digestIs (e .sample .digest) p5) (sym (digest-read text (l .digest) (e .sample .digest) _ p4 (l .is-digest) (s4 ∙ append-assoc (l .digest) _ rest))) refl
     (fieldIs 0 (p5 + 1)) (sym (mark-there text p5 lf separator (stands-has text rest p5 lf s5))) refl)
     ∙ ap (lineIs e) place
 
@@ -112,7 +112,7 @@ module _ (text : List ℕ) (at : ℕ) (h : noteLine text at .wanted ≡ nothing)
   read =
       record {
         note = f1 text at .value;
-        line = record { length = f2 text at .value; start = f3 text at .value; end = f4 text at .value; digest = d5 text at .bytes };
+        sample = record { length = f2 text at .value; start = f3 text at .value; end = f4 text at .value; digest = d5 text at .bytes };
       }
 
   is-read : noteLine text at ≡ lineIs read (c6 text at .at)

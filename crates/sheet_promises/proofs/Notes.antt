@@ -9,11 +9,11 @@ use lib.Dec.{eqb}
 use lib.ListN.{length, drop, length-drop, drop-of-length-le}
 use lib.Seq.{drop-cons}
 use Rattle.refusal.specs.Table.{accepted, form}
-use Rattle.sheet.specs.Reading.{nothing, lineIs, noteLine}
+use Rattle.lines.specs.Reading.{nothing, lineIs, noteLine}
 use Rattle.sheet.specs.Judging.{entryNumber, noteNumber, badLine, judgedNotes, entriesAt}
-use Rattle.sheet.specs.declared.Entry.{Entry}
-use Rattle.sheet.specs.declared.NoteLine.{NoteLine}
-use Rattle.sheet.proofs.Tests.{either, below-or-not}
+use Rattle.lines.specs.declared.Entry.{Entry}
+use Rattle.lines.specs.declared.NoteLine.{NoteLine}
+use Rattle.lines.proofs.Tests.{either, below-or-not}
 use Rattle.sheet.proofs.Verdicts.{line-ill, line-well, this-decides, rest-decides, text-follows, nothing-follows}
 use Rattle.sheet_promises.specs.Grammar.{IsLine, Lines, no-line, line, Obeys, AllObey, no-entry, entry}
 use Rattle.sheet_promises.specs.Faults.{Breaks, BadLine, ill-formed, breaks, FirstBad, here, later, follows}

@@ -7,8 +7,8 @@ use native.Mathlib.Nat.{add-zero}
 use native.Mathlib.Omega.{arith}
 use borrow.Author.Tests.{le-leb}
 use lib.ListN.{length, length-append}
-use Rattle.sheet.specs.Reading.{nothing, number, fieldIs, fieldFault, isFigure, withFigure, goesOn, figures, numberFrom}
-use Rattle.sheet.proofs.Numbers.{figure-from, figure-to, is-figure, goes-figure, goes-positive, goes-fits, goes-by, goes-not}
+use Rattle.lines.specs.Reading.{nothing, number, fieldIs, fieldFault, isFigure, withFigure, goesOn, figures, numberFrom}
+use Rattle.lines.proofs.Numbers.{figure-from, figure-to, is-figure, goes-figure, goes-positive, goes-fits, goes-by, goes-not}
 use Rattle.sheet_promises.specs.Grammar.{Decimal, figure, longer, IsNumber}
 
 -- a figure's value, and the number with it

@@ -1,8 +1,8 @@
 -- Whole sheets: a text is one, or it is refused by its first bad line. Assumes nothing.
-use Prim.Native.Nat.{ℕ, _≤_}
+use Prim.Native.Nat.{ℕ}
 use mathlib.Core.Path.{_≡_, refl, sym, ap, _∙_}
 use mathlib.Core.List.{List, _++_}
-use mathlib.Core.Bool.{true, false, true≢false}
+use mathlib.Core.Bool.{true, false}
 use mathlib.Core.Logic.{_⊎_, inl, inr, ⊎-elim}
 use native.Mathlib.Omega.{arith}
 use borrow.Author.Tests.{eqb-true, eqb-false}
@@ -10,17 +10,16 @@ use lib.Dec.{eqb}
 use lib.ListN.{length, drop}
 use lib.Seq.{drop-append-seam}
 use Rattle.refusal.specs.Table.{accepted, form, count-or-note}
-use Rattle.same.proofs.Tests.{never}
-use Rattle.sheet.specs.Reading.{nothing, fieldIs, headerLine}
-use Rattle.sheet.specs.Judging.{countRule, badLine, judgedNotes, judged, entriesAt}
-use Rattle.sheet.specs.declared.Field.{Field}
-use Rattle.sheet.specs.declared.Entry.{Entry}
-use Rattle.sheet.proofs.Tests.{either}
+use Rattle.rules.specs.Rules.{countRule}
+use Rattle.lines.specs.Reading.{nothing, fieldIs, headerLine}
+use Rattle.sheet.specs.Judging.{badLine, judgedNotes, judged, entriesAt}
+use Rattle.lines.specs.declared.Field.{Field}
+use Rattle.lines.specs.declared.Entry.{Entry}
+use Rattle.lines.proofs.Tests.{either}
 use Rattle.sheet.proofs.Verdicts.{header-ill, header-bad, header-good, header-decides, notes-decide}
 use Rattle.sheet_promises.specs.Grammar.{IsHeader, IsSheet}
 use Rattle.sheet_promises.specs.Faults.{Refused, no-header, count, notes}
 use Rattle.sheet_promises.proofs.Lines.{header-read, header-stands}
-use Rattle.sheet_promises.proofs.Rules.{count-good, good-count}
 use Rattle.sheet_promises.proofs.Notes.{all-good, entries-read, first-bad, first-refused, good-or-bad}
 
 -- a header that the text begins with, and the lines behind it
@@ -31,21 +30,21 @@ module _ (text front rest : List ℕ) (n : ℕ) (h : IsHeader front n) (cut : te
   pub lines-behind : drop (length front) text ≡ rest
   lines-behind = ap (drop (length front)) cut ∙ drop-append-seam front rest
 
-  pub bad-count : ((1 ≤ n) × (n ≤ 32) → ⊥) → judged text ≡ badLine count-or-note 1
+  pub bad-count : countRule n ≡ false → judged text ≡ badLine count-or-note 1
   unfolding fieldIs
   bad-count bad =
       sym (header-decides text (fieldIs n (length front)) count-or-note read
-      (sym (header-bad (fieldIs n (length front)) refl (never _ (λ c. bad (count-good n c))))) (λ e. omega arith))
+      (sym (header-bad (fieldIs n (length front)) refl bad)) (λ e. omega arith))
 
-  pub count-passes : 1 ≤ n → n ≤ 32 → judged text ≡ judgedNotes n text (length front) 2 0
+  pub count-passes : countRule n ≡ true → judged text ≡ judgedNotes n text (length front) 2 0
   unfolding fieldIs
-  count-passes low high =
-      notes-decide text (fieldIs n (length front)) accepted read (sym (header-good (fieldIs n (length front)) refl (good-count n low high))) refl
+  count-passes good =
+      notes-decide text (fieldIs n (length front)) accepted read (sym (header-good (fieldIs n (length front)) refl good)) refl
 
 -- a sheet is accepted, and its entries are those that are read
 pub sheet-accepted : (text : List ℕ) (es : List Entry) → IsSheet text es → judged text ≡ badLine accepted 0
 sheet-accepted text es s =
-    count-passes text (s .header) (s .lines) (length es) (s .is-header) (s .whole) (s .least) (s .most)
+    count-passes text (s .header) (s .lines) (length es) (s .is-header) (s .whole) (s .count-rule)
     ∙ all-good text (s .lines) es (length (s .header)) 2 0 (s .are-lines) (s .obeyed) (lines-behind text (s .header) (s .lines) (length es) (s .is-header) (s .whole))
 
 pub sheet-entries : (text : List ℕ) (es : List Entry) → IsSheet text es → entriesAt (headerLine text .value) text (headerLine text .at) ≡ es
@@ -60,14 +59,14 @@ bad-refused text number line (no-header none) =
     sym (header-decides text (headerLine text) form refl
     (sym (header-ill (headerLine text) (λ well. let s = header-stands text well in none (s .piece) _ _ (s .is-header) (s .cut)))) (λ e. omega arith))
 bad-refused text number line (count front rest n h cut bad) = bad-count text front rest n h cut bad
-bad-refused text number line (notes front rest n h cut low high b) =
-    count-passes text front rest n h cut low high
+bad-refused text number line (notes front rest n h cut good b) =
+    count-passes text front rest n h cut good
     ∙ first-bad text rest (length front) 2 n 0 number line b (lines-behind text front rest n h cut)
 
 pub never-accepted : (text : List ℕ) (number line : ℕ) → Refused text number line → number ≡ accepted → ⊥
 never-accepted text number line (no-header none) h = omega arith
 never-accepted text number line (count front rest n i cut bad) h = omega arith
-never-accepted text number line (notes front rest n i cut low high b) h = first-refused b h
+never-accepted text number line (notes front rest n i cut good b) h = first-refused b h
 
 -- and every text is one or the other
 abbrev pub Answered : List ℕ → Type 0
@@ -87,12 +86,11 @@ module _ (text : List ℕ) where
     uncounted : countRule (headerLine text .value) ≡ false → Answered text
     uncounted bad =
         let s = header-stands text well in
-        refuse count-or-note 1 (count (s .piece) _ _ (s .is-header) (s .cut) (λ g. true≢false (sym (good-count _ (g .0) (g .1)) ∙ bad)))
+        refuse count-or-note 1 (count (s .piece) _ _ (s .is-header) (s .cut) bad)
 
     counted : countRule (headerLine text .value) ≡ true → Answered text
     counted good =
         let s = header-stands text well in
-        let range = count-good _ good in
         ⊎-elim
         (λ g.
         inl (
@@ -101,14 +99,13 @@ module _ (text : List ℕ) where
             header = s .piece;
             lines = drop (headerLine text .at) text;
             is-header = rw (g .as-many) (s .is-header);
-            least = rw (g .as-many) (range .0);
-            most = rw (g .as-many) (range .1);
+            count-rule = rw (g .as-many) good;
             are-lines = g .are-lines;
             obeyed = g .obeyed;
             whole = s .cut;
           },
         ))
-        (λ b. refuse _ _ (notes (s .piece) _ _ (s .is-header) (s .cut) (range .0) (range .1) b))
+        (λ b. refuse _ _ (notes (s .piece) _ _ (s .is-header) (s .cut) good b))
         (good-or-bad (headerLine text .value) text (headerLine text .at) 2 0)
 
   pub sheet-or-refused : Answered text

@@ -9,8 +9,8 @@ use native.Mathlib.Omega.{arith}
 use borrow.Author.Tests.{eq-eqb}
 use lib.ListN.{length, getD, drop, length-drop}
 use lib.Seq.{drop-cons, drop-drop, drop-append-seam, getD-drop}
-use Rattle.sheet.specs.Reading.{hasAt}
-use Rattle.sheet.proofs.Marks.{has-below, has-byte, has-in}
+use Rattle.lines.specs.Reading.{hasAt}
+use Rattle.lines.proofs.Marks.{has-below, has-byte, has-in}
 
 -- behind what stands at a place
 pub behind : (text front rest : List ℕ) (at : ℕ) → drop at text ≡ front ++ rest → drop (at + length front) text ≡ rest

@@ -5,19 +5,16 @@ use mathlib.Core.Path.{_≡_}
 use mathlib.Core.List.{List, _∷_, _++_}
 use mathlib.Core.Bool.{true, false}
 use Rattle.refusal.specs.Table.{form, count-or-note, bad-length, bad-loop}
-use Rattle.session.specs.Rules.{lengthRule, loopRule}
-use Rattle.sheet.specs.declared.Entry.{Entry}
+use Rattle.rules.specs.Rules.{countRule, noteRule, lengthRule, loopRule}
+use Rattle.lines.specs.declared.Entry.{Entry}
 use Rattle.sheet_promises.specs.Grammar.{IsHeader, IsLine, Obeys}
-
--- "Notes are 1..32, rising strictly"
-unfoldable pub GoodNote : ℕ → Entry → Type 0
-GoodNote last e = (last < e .note) × (e .note ≤ 32)
 
 -- a well-formed line that breaks a rule, and none before it
 pub data Breaks (last : ℕ) (e : Entry) : ℕ → Type 0 where
-  note : (GoodNote last e → ⊥) → Breaks last e count-or-note
-  bytes : GoodNote last e → lengthRule (e .line .length) ≡ false → Breaks last e bad-length
-  loop : GoodNote last e → lengthRule (e .line .length) ≡ true → loopRule (e .line .length) (e .line .start) (e .line .end) ≡ false → Breaks last e bad-loop
+  note : noteRule last (e .note) ≡ false → Breaks last e count-or-note
+  bytes : noteRule last (e .note) ≡ true → lengthRule (e .sample .length) ≡ false → Breaks last e bad-length
+  loop : noteRule last (e .note) ≡ true → lengthRule (e .sample .length) ≡ true → loopRule (e .sample .length) (e .sample .start) (e .sample .end) ≡ false
+      → Breaks last e bad-loop
 
 -- what is wrong where a note line is to begin: no line of that form does, or one that breaks a rule
 pub data BadLine (last : ℕ) (text : List ℕ) : ℕ → Type 0 where
@@ -35,7 +32,7 @@ pub data FirstBad : ℕ → ℕ → ℕ → List ℕ → ℕ → ℕ → Type 0 
 -- the refusal number of a text, and the line
 pub data Refused (text : List ℕ) : ℕ → ℕ → Type 0 where
   no-header : ((front rest : List ℕ) (count : ℕ) → IsHeader front count → text ≡ front ++ rest → ⊥) → Refused text form 1
-  count : (front rest : List ℕ) (count : ℕ) → IsHeader front count → text ≡ front ++ rest → ((1 ≤ count) × (count ≤ 32) → ⊥)
+  count : (front rest : List ℕ) (count : ℕ) → IsHeader front count → text ≡ front ++ rest → countRule count ≡ false
       → Refused text count-or-note 1
-  notes : {number bad : ℕ} (front rest : List ℕ) (count : ℕ) → IsHeader front count → text ≡ front ++ rest → 1 ≤ count → count ≤ 32
+  notes : {number bad : ℕ} (front rest : List ℕ) (count : ℕ) → IsHeader front count → text ≡ front ++ rest → countRule count ≡ true
       → FirstBad 2 count 0 rest number bad → Refused text number bad

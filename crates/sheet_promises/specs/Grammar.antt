@@ -5,8 +5,8 @@ use mathlib.Core.List.{List, [], _∷_, _++_}
 use mathlib.Core.Bool.{true}
 use lib.ListN.{length}
 use Rattle.hex.specs.Digits.{IsDigit}
-use Rattle.session.specs.Rules.{lengthRule, loopRule}
-use Rattle.sheet.specs.declared.Entry.{Entry}
+use Rattle.rules.specs.Rules.{countRule, noteRule, lengthRule, loopRule}
+use Rattle.lines.specs.declared.Entry.{Entry}
 
 -- "Numbers are decimal, .. with no leading zero except `0` itself": one figure, or a number other than 0 and one figure more
 pub data Decimal : List ℕ → ℕ → Type 0 where
@@ -47,10 +47,10 @@ pub record IsLine (text : List ℕ) (e : Entry) : Type 0 where
   pub end : List ℕ
   pub digest : List ℕ
   pub is-note : IsField note (e .note) 9
-  pub is-length : IsField bytes (e .line .length) 9
-  pub is-start : IsField start (e .line .start) 9
-  pub is-end : IsField end (e .line .end) 9
-  pub is-digest : IsDigest digest (e .line .digest)
+  pub is-length : IsField bytes (e .sample .length) 9
+  pub is-start : IsField start (e .sample .start) 9
+  pub is-end : IsField end (e .sample .end) 9
+  pub is-digest : IsDigest digest (e .sample .digest)
   pub whole : text ≡ note ++ (bytes ++ (start ++ (end ++ (digest ++ (10 ∷ [])))))
 
 -- lines, one after the other
@@ -58,12 +58,11 @@ pub data Lines : List ℕ → List Entry → Type 0 where
   no-line : Lines [] []
   line : {text rest : List ℕ} {e : Entry} {es : List Entry} → IsLine text e → Lines rest es → Lines (text ++ rest) (e ∷ es)
 
--- "Notes are 1..32, rising strictly", so above the note before or above 0; rules 3 and 4 are the session's
+-- a line's numbers obey rules 2 to 4, after a note or after 0
 pub record Obeys (last : ℕ) (e : Entry) : Type 0 where
-  pub rises : last < e .note
-  pub most : e .note ≤ 32
-  pub length-rule : lengthRule (e .line .length) ≡ true
-  pub loop-rule : loopRule (e .line .length) (e .line .start) (e .line .end) ≡ true
+  pub note-rule : noteRule last (e .note) ≡ true
+  pub length-rule : lengthRule (e .sample .length) ≡ true
+  pub loop-rule : loopRule (e .sample .length) (e .sample .start) (e .sample .end) ≡ true
 
 -- every line obeys the rules, after a note
 pub data AllObey : ℕ → List Entry → Type 0 where
@@ -75,8 +74,7 @@ pub record IsSheet (text : List ℕ) (es : List Entry) : Type 0 where
   pub header : List ℕ
   pub lines : List ℕ
   pub is-header : IsHeader header (length es)
-  pub least : 1 ≤ length es
-  pub most : length es ≤ 32
+  pub count-rule : countRule (length es) ≡ true
   pub are-lines : Lines lines es
   pub obeyed : AllObey 0 es
   pub whole : text ≡ header ++ lines

@@ -9,19 +9,19 @@ use Rattle.session.specs.Slots.{emptySlot, waitingSlot, emptySession}
 use Rattle.session.specs.Deliver.{slotOf}
 use Rattle.session.specs.declared.Session.{Session}
 use Rattle.sheet.specs.Judging.{sheetOf}
-use Rattle.sheet.specs.declared.Entry.{Entry}
+use Rattle.lines.specs.declared.Entry.{Entry}
 use Rattle.sheet_promises.specs.Grammar.{IsNumber, IsSheet}
 use Rattle.sheet_promises.specs.Faults.{Refused}
 
 -- an entry is one of a sheet's
 pub data Among (e : Entry) : List Entry → Type 0 where
   first : {es : List Entry} → Among e (e ∷ es)
-  after : {d : Entry} {es : List Entry} → Among e es → Among e (d ∷ es)
+  further : {d : Entry} {es : List Entry} → Among e es → Among e (d ∷ es)
 
 -- "An accepted sheet's session lists exactly the notes of its lines, each waiting, with its own line's record and a fresh state."
 pub record Lists (s : Session) (es : List Entry) : Type 0 where
   pub slots : length (s .slots) ≡ 32
-  pub listed : (e : Entry) → Among e es → slotOf s (e .note) ≡ waitingSlot (e .line)
+  pub listed : (e : Entry) → Among e es → slotOf s (e .note) ≡ waitingSlot (e .sample)
   pub others : (note : ℕ) → 1 ≤ note → note ≤ 32 → ((e : Entry) → Among e es → e .note ≡ note → ⊥) → slotOf s note ≡ emptySlot
 
 pub record Promises : Type 0 where

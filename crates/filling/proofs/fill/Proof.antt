@@ -18,17 +18,17 @@ use Rattle.walks.proofs.Calls.{arrives, asks}
 use Rattle.walks.proofs.Loops.{after, envOf, Some, held, hold, turning, once-more, tests}
 use Rattle.walks.proofs.Ends.{ends, stands}
 use Rattle.session.specs.declared.Session.{Session}
-use Rattle.sheet.specs.Judging.{entriesAt, listed}
+use Rattle.sheet.specs.Judging.{entriesAt, withNotes}
 use Rattle.lent.proofs.Structs.{Place, Places}
 use Rattle.lent.proofs.Slots.{sets-slot, slot-back}
-use Rattle.filling.specs.Filling.{listing}
-use Rattle.filling.specs.declared.Listing.{Listing}
-use Rattle.filling.proofs.Filling.{listed-next, listed-none, listing-lt}
+use Rattle.sheet.specs.Filling.{listing}
+use Rattle.sheet.specs.declared.Listing.{Listing}
+use Rattle.sheet.proofs.Filling.{lists-next, lists-none, listing-lt}
 use Rattle.filling.proofs.Structs.{Listed, slot-is, next-fits}
-use Rattle.filling.proofs.listing_at as listing-at
-use Rattle.filling.proofs.listing_at.Symbol as listing-at-def
-use Rattle.filling.proofs.listing_at.Symbol.{name as #listing-at}
-use Rattle.filling.proofs.listing_at.Met as listing-at-thm
+use Rattle.sheet.proofs.listing_at as listing-at
+use Rattle.sheet.proofs.listing_at.Symbol as listing-at-def
+use Rattle.sheet.proofs.listing_at.Symbol.{name as #listing-at}
+use Rattle.sheet.proofs.listing_at.Met as listing-at-thm
 use Rattle.filling.proofs.fill.Key.{name as #fill}
 use Rattle.filling.proofs.fill as fill
 use Rattle.filling.proofs.fill.Statement as stated
@@ -44,7 +44,7 @@ far i l = omega arith
 module _ (text : List ℕ) (at notes : ℕ) (s : Session) where
   -- t lines are left, from a place, with so many read and the session that they made
   abbrev Left : ℕ → ℕ × ℕ × Session → Type 0
-  Left t x = (x .1 + t ≡ notes) × (listed (x .2) (entriesAt t text (x .0)) ≡ listed s (entriesAt notes text at)) × (x .0 < 2 ^ 64)
+  Left t x = (x .1 + t ≡ notes) × (withNotes (x .2) (entriesAt t text (x .0)) ≡ withNotes s (entriesAt notes text at)) × (x .0 < 2 ^ 64)
 
   module _ (t : ℕ) (x : ℕ × ℕ × Session) (f : Left t x) where
     further : x .1 < notes → notes < 2 ^ 32 → x .1 + 1 < 2 ^ 32
@@ -56,12 +56,12 @@ module _ (text : List ℕ) (at notes : ℕ) (s : Session) where
     turned : x .1 < notes → (r : Listing) → r ≡ listing text (x .0) → r .next < 2 ^ 64 → Left (t - 1) (r .next, x .1 + 1, record { slots = set (x .2 .slots) (r .place) (r .slot) })
     turned l r e fits =
         let more : suc (t - 1) ≡ t = omega (arith, f .0) in
-        (omega (arith, f .0), sym (listed-next text (x .0) r e (x .2) (t - 1)) ∙ subst (λ (n : ℕ). listed (x .2) (entriesAt n text (x .0)) ≡ listed s (entriesAt notes text at)) (sym more) (f .1), fits)
+        (omega (arith, f .0), sym (lists-next text (x .0) r e (x .2) (t - 1)) ∙ subst (λ (n : ℕ). withNotes (x .2) (entriesAt n text (x .0)) ≡ withNotes s (entriesAt notes text at)) (sym more) (f .1), fits)
 
-    all-read : ltb (x .1) notes ≡ false → x .2 ≡ listed s (entriesAt notes text at)
+    all-read : ltb (x .1) notes ≡ false → x .2 ≡ withNotes s (entriesAt notes text at)
     all-read big =
         let none : t ≡ 0 = omega (arith, f .0, ltb-false (x .1) notes big) in
-        sym (listed-none (x .2) text (x .0)) ∙ subst (λ (n : ℕ). listed (x .2) (entriesAt n text (x .0)) ≡ listed s (entriesAt notes text at)) none (f .1)
+        sym (lists-none (x .2) text (x .0)) ∙ subst (λ (n : ℕ). withNotes (x .2) (entriesAt n text (x .0)) ≡ withNotes s (entriesAt notes text at)) none (f .1)
 
 module _ {M : Type 1} (𝓤 : URA M) (H : Heap 𝓤) (A : Atoms 𝓤) (W : Given 𝓤 H A) (mem : Memory → SProp 𝓤) (run : Routine → Fun 𝓤) (κs : Lfts 2) (qs : Shares 2) (s : RefT Session) (text : RefT (List ℕ)) (at notes : ℕ) where
   abbrev a : RefT Session × (RefT (List ℕ) × (ℕ × (ℕ × Unit {0})))
@@ -150,4 +150,4 @@ fill-spec 𝓤 H 𝓜 𝓖 𝓡 =
     (goes-ref 𝓤 H (𝓖 .A) (givenOf 𝓤 H 𝓜 𝓖) 2 0 tt (plain (λ _. rowOf Places)), (goes-none-slice 𝓤 H (𝓖 .A) (givenOf 𝓤 H 𝓜 𝓖) 2 (1 ∷ []) tt (plain (λ _. u8)) yes, (goes-none 𝓤 H (𝓖 .A) (givenOf 𝓤 H 𝓜 𝓖) 2 (λ _. usize) yes (λ κs x f. refl), (goes-none 𝓤 H (𝓖 .A) (givenOf 𝓤 H 𝓜 𝓖) 2 (λ _. u32) yes (λ κs x f. refl), tt))))
     (λ κs. (ptr-vals, (slice-vals, (uint-vals w64, (uint-vals w32, tt))))) (λ κs. (mut-tells (named 0) (κs .0) (rowOf Places), (shr-slice-tells (named 1) (κs .1 .0) u8, (uint-tells w64, (uint-tells w32, tt)))))
     (λ fm κs qs bounds a g are. walk 𝓤 H (𝓖 .A) (givenOf 𝓤 H 𝓜 𝓖) (𝓜 .mem) (𝓡 .run) κs qs (a .0) (a .1 .0) (a .1 .1 .0) (a .1 .1 .1 .0) (tablesOf 𝓤 H 𝓜 (tables 𝓤 H 𝓜 𝓡 code.env))
-    (cited 𝓤 H (tripleOf 𝓤 H (𝓖 .A) listing-at.signature (listing-at.spec 𝓤 H (𝓖 .A) (𝓜 .mem) (𝓡 .run))) 𝓜 𝓡 code.env #listing-at listing-at-def.routine code.calls-filling·listing-at (listing-at-thm.met 𝓤 H 𝓜 𝓖 𝓡)) (are .1 .0) (are .1 .1 .0 .1) (are .1 .1 .1 .0 .1))
+    (cited 𝓤 H (tripleOf 𝓤 H (𝓖 .A) listing-at.signature (listing-at.spec 𝓤 H (𝓖 .A) (𝓜 .mem) (𝓡 .run))) 𝓜 𝓡 code.env #listing-at listing-at-def.routine code.calls-sheet·listing-at (listing-at-thm.met 𝓤 H 𝓜 𝓖 𝓡)) (are .1 .0) (are .1 .1 .0 .1) (are .1 .1 .1 .0 .1))

@@ -13,19 +13,19 @@ use Rattle.walks.proofs.Lend.{lentAs, lends, regains}
 use Rattle.walks.proofs.Ends.{ends, stands}
 use Rattle.session.specs.Slots.{emptySession}
 use Rattle.session.specs.declared.Session.{Session}
-use Rattle.sheet.specs.Judging.{judged, entriesAt, listed}
+use Rattle.sheet.specs.Judging.{judged, entriesAt, withNotes}
 use Rattle.sheet.proofs.judged as judge
 use Rattle.sheet.proofs.judged.Symbol as judge-def
 use Rattle.sheet.proofs.judged.Symbol.{name as #judge}
 use Rattle.sheet.proofs.judged.Met as judge-thm
 use Rattle.lent.proofs.Structs.{Places}
-use Rattle.filling.specs.Filling.{start}
+use Rattle.sheet.specs.Filling.{start}
 use Rattle.filling.proofs.Sheets.{answered}
 use Rattle.filling.proofs.Structs.{Judged, Begun, at-fits, notes-fit}
-use Rattle.filling.proofs.start_of as start-of
-use Rattle.filling.proofs.start_of.Symbol as start-of-def
-use Rattle.filling.proofs.start_of.Symbol.{name as #start-of}
-use Rattle.filling.proofs.start_of.Met as start-of-thm
+use Rattle.sheet.proofs.start_of as start-of
+use Rattle.sheet.proofs.start_of.Symbol as start-of-def
+use Rattle.sheet.proofs.start_of.Symbol.{name as #start-of}
+use Rattle.sheet.proofs.start_of.Met as start-of-thm
 use Rattle.filling.proofs.list_none as none
 use Rattle.filling.proofs.list_none.Symbol as none-def
 use Rattle.filling.proofs.list_none.Symbol.{name as #none}
@@ -90,7 +90,7 @@ module _ {M : Type 1} (𝓤 : URA M) (H : Heap 𝓤) (A : Atoms 𝓤) (W : Given
         asks W start-of.ended (κs .1 .0, tt) (qs .1 .0, tt) (text, (j, tt)) (v ∷ [], (machine Judged j ∷ [], tt)) (start-of.clauses 𝓤 H A mem run) tt tt (machine Begun) (LL.tells (Begun .type) (Begun .laws)) (λ r. r ≡ start (text .now) j) !
         fm starts (id⊢ 𝓤 (emp 𝓤)) (λ r ws. id⊢ 𝓤 _) (and-then ! (load ! (from ! (stop !)) (look ! 14 refl)) (and-then ! (load ! (from ! (stop !)) (look ! 12 refl)) (no-more !))) (λ b eb b-is. move ! (1 ∷ []) $ drop ! $
         land ! (from ! (stop !)) (init ! 10 refl (typed Begun 𝓤 H A W b b-is)) $
-        -- the session is lent on, and no note is listed
+        -- the session is lent on, and no note is withNotes
         assigns ! (addr ! (from ! (hop ! (look ! 16 refl) (stop !)))) (from ! (stop !)) (init ! 6 refl (tt, tt)) $
         move ! (3 ∷ 2 ∷ []) $ opened ! tt Places (named 0) s $ lends ! tt Places (named 0) (s .now) (s .ptr .0) (s .ptr .1) (λ ν γ. move ! (1 ∷ 0 ∷ []) $
         asks-last W none.ended (ν ∷ [], tt) (fullShare, tt) (lentAs Places (s .ptr .0) (s .ptr .1) γ (s .now), tt) (at ∷ [], tt) (none.clauses 𝓤 H A mem run) tt tt (λ _. vunit) (λ r vs is. is) (λ r ws. ws .0 ≡ emptySession) !
@@ -98,12 +98,12 @@ module _ {M : Type 1} (𝓤 : URA M) (H : Heap 𝓤) (A : Atoms 𝓤) (W : Given
         land ! (from ! (stop !)) (init ! 11 refl (tt, tt)) $ fsplit ! $ move ! (2 ∷ 4 ∷ 0 ∷ []) $ regains ! tt Places (ws .0) (s .ptr .0) (s .ptr .1) $ move ! (1 ∷ []) $ drop ! $ move ! (1 ∷ []) $ drop ! $
         -- [the session; the open borrow; text's token; text; _7; …; _0; …]
         assigns ! (addr ! (from ! (hop ! (look ! 16 refl) (stop !)))) (from ! (stop !)) (init ! 4 refl (tt, tt)) $
-        -- and again, and the lines' notes are listed
+        -- and again, and the lines' notes are withNotes
         lends ! tt Places (named 0) (ws .0) (s .ptr .0) (s .ptr .1) (λ ν′ γ′.
         move ! (5 ∷ []) $ use1 W (‵ Text ⊛ ‵ Text) (shr-slice-copy 𝓤 H A W (named 1) (κs .1 .0) u8 .twice text (v ∷ [])) $ split ! $
         owned ! u32 (Is u32) (uint-makes 𝓤 H A W w32) (b .notes) (vint w32 (b .notes) ∷ []) (refl, notes-fit b b-is) $ owned ! usize (Is usize) (uint-makes 𝓤 H A W w64) (b .at) (vint w64 (b .at) ∷ []) (refl, at-fits b b-is) $ move ! (5 ∷ 8 ∷ 4 ∷ 2 ∷ 0 ∷ 1 ∷ []) $
         asks-last W fill.ended (ν′ ∷ [], (κs .1 .0, tt)) (fullShare, (qs .1 .0, tt)) (lentAs Places (s .ptr .0) (s .ptr .1) γ′ (ws .0), (text, (b .at, (b .notes, tt)))) (at ∷ [], (v ∷ [], (vint w64 (b .at) ∷ [], (vint w32 (b .notes) ∷ [], tt)))) (fill.clauses 𝓤 H A mem run) tt tt (λ _. vunit) (λ r vs is. is)
-        (λ r ws′. ws′ .0 ≡ listed (ws .0) (entriesAt (b .notes) (text .now) (b .at))) ! fm fills (id⊢ 𝓤 (emp 𝓤)) (λ r ws. id⊢ 𝓤 _)
+        (λ r ws′. ws′ .0 ≡ withNotes (ws .0) (entriesAt (b .notes) (text .now) (b .at))) ! fm fills (id⊢ 𝓤 (emp 𝓤)) (λ r ws. id⊢ 𝓤 _)
         (and-then ! (load ! (from ! (stop !)) (look ! 4 refl)) (and-then ! (load ! (from ! (stop !)) (look ! 14 refl)) (and-then ! (load ! (from ! (fld ! refl (stop !))) (look-in ! 10 (sub ! 0 refl (whole !)))) (and-then ! (load ! (from ! (fld ! refl (stop !))) (look-in ! 10 (sub ! 1 refl (whole !)))) (no-more !))))) (λ r′ ws′ e _.
         land ! (from ! (stop !)) (store ! 11 refl (tt, tt)) $ fsplit ! $ move ! (2 ∷ 6 ∷ 0 ∷ []) $ regains ! tt Places (ws′ .0) (s .ptr .0) (s .ptr .1) $
         -- [the session; …; text's token; …; text; the open borrow; _7; …; _0; …]
@@ -121,6 +121,6 @@ read-into-spec 𝓤 H 𝓜 𝓖 𝓡 =
     (λ κs. (ptr-vals, (slice-vals, tt))) (λ κs. (mut-tells (named 0) (κs .0) (rowOf Places), (shr-slice-tells (named 1) (κs .1 .0) u8, tt)))
     (λ fm κs qs bounds a g are. walk 𝓤 H (𝓖 .A) (givenOf 𝓤 H 𝓜 𝓖) (𝓜 .mem) (𝓡 .run) κs qs (a .0) (a .1 .0) (tables 𝓤 H 𝓜 𝓡 code.env .C) (tables 𝓤 H 𝓜 𝓡 code.env .Λ) fm
     (cited 𝓤 H (tripleOf 𝓤 H (𝓖 .A) judge.signature (judge.spec 𝓤 H (𝓖 .A) (𝓜 .mem) (𝓡 .run))) 𝓜 𝓡 code.env #judge judge-def.routine code.calls-sheet·judged (judge-thm.met 𝓤 H 𝓜 𝓖 𝓡))
-    (cited 𝓤 H (tripleOf 𝓤 H (𝓖 .A) start-of.signature (start-of.spec 𝓤 H (𝓖 .A) (𝓜 .mem) (𝓡 .run))) 𝓜 𝓡 code.env #start-of start-of-def.routine code.calls-filling·start-of (start-of-thm.met 𝓤 H 𝓜 𝓖 𝓡))
+    (cited 𝓤 H (tripleOf 𝓤 H (𝓖 .A) start-of.signature (start-of.spec 𝓤 H (𝓖 .A) (𝓜 .mem) (𝓡 .run))) 𝓜 𝓡 code.env #start-of start-of-def.routine code.calls-sheet·start-of (start-of-thm.met 𝓤 H 𝓜 𝓖 𝓡))
     (cited 𝓤 H (tripleOf 𝓤 H (𝓖 .A) none.signature (none.spec 𝓤 H (𝓖 .A) (𝓜 .mem) (𝓡 .run))) 𝓜 𝓡 code.env #none none-def.routine code.calls-filling·list-none (none-thm.met 𝓤 H 𝓜 𝓖 𝓡))
     (cited 𝓤 H (tripleOf 𝓤 H (𝓖 .A) fill.signature (fill.spec 𝓤 H (𝓖 .A) (𝓜 .mem) (𝓡 .run))) 𝓜 𝓡 code.env #fill fill-def.routine code.calls-filling·fill (fill-thm.met 𝓤 H 𝓜 𝓖 𝓡)) (are .1 .0))

@@ -11,7 +11,7 @@ use Rattle.walks.proofs.Borrow.{rowOf, machine, typed, made, looked, shut, know
 use Rattle.walks.proofs.Calls.{arrives, asks}
 use Rattle.walks.proofs.Ends.{ends, stands}
 use Rattle.session.specs.Slots.{emptySlot}
-use Rattle.session.specs.Places.{placeOf, askAt}
+use Rattle.session.specs.Deliver.{placeOf, askAt}
 use Rattle.session.specs.declared.Slot.{Slot}
 use Rattle.session.specs.declared.Session.{Session}
 use Rattle.session.proofs.Places.{asked-there}

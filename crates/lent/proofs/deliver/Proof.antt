@@ -12,7 +12,7 @@ use Rattle.walks.proofs.Calls.{arrives, asks}
 use Rattle.walks.proofs.Ends.{ends, stands}
 use Rattle.session.specs.Slots.{emptySlot}
 use Rattle.session.specs.Deliver.{deliver as delivered}
-use Rattle.session.specs.Places.{placeOf, deliverAt}
+use Rattle.session.specs.Deliver.{placeOf, deliverAt}
 use Rattle.session.specs.declared.Slot.{Slot}
 use Rattle.session.specs.declared.Session.{Session}
 use Rattle.session.specs.declared.Step.{Step}

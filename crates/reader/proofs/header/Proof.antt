@@ -9,12 +9,12 @@ use Rattle.walks.proofs.Words.{URA, Val, SProp, ent, emp, id⊢, Memory, Routin
 use Rattle.walks.proofs.Borrow.{machine, IsData, typed, gone}
 use Rattle.walks.proofs.Calls.{arrives, asks}
 use Rattle.walks.proofs.Ends.{ends, stands}
-use Rattle.sheet.specs.Reading.{headerLine}
-use Rattle.sheet.specs.declared.Field.{Field}
-use Rattle.sheet.proofs.header_line as callee
-use Rattle.sheet.proofs.header_line.Symbol as callee-def
-use Rattle.sheet.proofs.header_line.Symbol.{name as #callee}
-use Rattle.sheet.proofs.header_line.Met as callee-thm
+use Rattle.lines.specs.Reading.{headerLine}
+use Rattle.lines.specs.declared.Field.{Field}
+use Rattle.lines.proofs.header_line as callee
+use Rattle.lines.proofs.header_line.Symbol as callee-def
+use Rattle.lines.proofs.header_line.Symbol.{name as #callee}
+use Rattle.lines.proofs.header_line.Met as callee-thm
 use Rattle.reader.specs.Reader.{moved, headerRead}
 use Rattle.reader.specs.declared.SheetReader.{SheetReader}
 use Rattle.reader.specs.declared.NumberRead.{NumberRead}
@@ -87,4 +87,4 @@ header-spec 𝓤 H 𝓜 𝓖 𝓡 =
     stands 𝓤 H 𝓜 𝓖 𝓡 code.env next.ended stayed (next.clauses 𝓤 H (𝓖 .A) (𝓜 .mem) (𝓡 .run)) #next code.function (code.unfolded 𝓤 H 𝓜 𝓡)
     (goes-none 𝓤 H (𝓖 .A) (givenOf 𝓤 H 𝓜 𝓖) 1 (λ κs. rowAt (namedLft 1 0 tt κs)) yes (λ κs x f. refl), tt) (λ κs. (LL.vals (typeAt (namedLft 1 0 tt κs)) (lawsAt (namedLft 1 0 tt κs)), tt)) (λ κs. (LL.tells (typeAt (namedLft 1 0 tt κs)) (lawsAt (namedLft 1 0 tt κs)), tt))
     (λ fm κs qs bounds a g are. walk 𝓤 H (𝓖 .A) (givenOf 𝓤 H 𝓜 𝓖) (𝓜 .mem) (𝓡 .run) κs qs (a .0) (tables 𝓤 H 𝓜 𝓡 code.env .C) (tables 𝓤 H 𝓜 𝓡 code.env .Λ) fm
-    (cited 𝓤 H (tripleOf 𝓤 H (𝓖 .A) callee.signature (callee.spec 𝓤 H (𝓖 .A) (𝓜 .mem) (𝓡 .run))) 𝓜 𝓡 code.env #callee callee-def.routine code.calls-sheet·header-line (callee-thm.met 𝓤 H 𝓜 𝓖 𝓡)) (are .0))
+    (cited 𝓤 H (tripleOf 𝓤 H (𝓖 .A) callee.signature (callee.spec 𝓤 H (𝓖 .A) (𝓜 .mem) (𝓡 .run))) 𝓜 𝓡 code.env #callee callee-def.routine code.calls-lines·header-line (callee-thm.met 𝓤 H 𝓜 𝓖 𝓡)) (are .0))

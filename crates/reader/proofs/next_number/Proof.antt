@@ -10,12 +10,12 @@ use Rattle.walks.proofs.Words.{URA, w8, w64, Val, vint, SProp, ent, emp, id⊢,
 use Rattle.walks.proofs.Borrow.{machine, IsData, typed, gone}
 use Rattle.walks.proofs.Calls.{arrives, asks}
 use Rattle.walks.proofs.Ends.{ends, stands}
-use Rattle.sheet.specs.Reading.{fieldAt}
-use Rattle.sheet.specs.declared.Field.{Field}
-use Rattle.sheet.proofs.field_at as callee
-use Rattle.sheet.proofs.field_at.Symbol as callee-def
-use Rattle.sheet.proofs.field_at.Symbol.{name as #callee}
-use Rattle.sheet.proofs.field_at.Met as callee-thm
+use Rattle.lines.specs.Reading.{fieldAt}
+use Rattle.lines.specs.declared.Field.{Field}
+use Rattle.lines.proofs.field_at as callee
+use Rattle.lines.proofs.field_at.Symbol as callee-def
+use Rattle.lines.proofs.field_at.Symbol.{name as #callee}
+use Rattle.lines.proofs.field_at.Met as callee-thm
 use Rattle.reader.specs.Reader.{moved, numberRead}
 use Rattle.reader.specs.declared.SheetReader.{SheetReader}
 use Rattle.reader.specs.declared.NumberRead.{NumberRead}
@@ -90,4 +90,4 @@ next-number-spec 𝓤 H 𝓜 𝓖 𝓡 =
     (goes-none 𝓤 H (𝓖 .A) (givenOf 𝓤 H 𝓜 𝓖) 1 (λ κs. rowAt (namedLft 1 0 tt κs)) yes (λ κs x f. refl), (goes-none 𝓤 H (𝓖 .A) (givenOf 𝓤 H 𝓜 𝓖) 1 (λ _. u8) yes (λ κs x f. refl), tt))
     (λ κs. (LL.vals (typeAt (namedLft 1 0 tt κs)) (lawsAt (namedLft 1 0 tt κs)), (uint-vals w8, tt))) (λ κs. (LL.tells (typeAt (namedLft 1 0 tt κs)) (lawsAt (namedLft 1 0 tt κs)), (uint-tells w8, tt)))
     (λ fm κs qs bounds a g are. walk 𝓤 H (𝓖 .A) (givenOf 𝓤 H 𝓜 𝓖) (𝓜 .mem) (𝓡 .run) κs qs (a .0) (a .1 .0) (tables 𝓤 H 𝓜 𝓡 code.env .C) (tables 𝓤 H 𝓜 𝓡 code.env .Λ) fm
-    (cited 𝓤 H (tripleOf 𝓤 H (𝓖 .A) callee.signature (callee.spec 𝓤 H (𝓖 .A) (𝓜 .mem) (𝓡 .run))) 𝓜 𝓡 code.env #callee callee-def.routine code.calls-sheet·field-at (callee-thm.met 𝓤 H 𝓜 𝓖 𝓡)) (are .0) (are .1 .0 .1))
+    (cited 𝓤 H (tripleOf 𝓤 H (𝓖 .A) callee.signature (callee.spec 𝓤 H (𝓖 .A) (𝓜 .mem) (𝓡 .run))) 𝓜 𝓡 code.env #callee callee-def.routine code.calls-lines·field-at (callee-thm.met 𝓤 H 𝓜 𝓖 𝓡)) (are .0) (are .1 .0 .1))

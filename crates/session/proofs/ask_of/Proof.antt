@@ -9,7 +9,7 @@ returns : tie.Need-returns
 returns c = c .as-it-stands .ensures ∙ sym (asked _ (sym (c .before .before .slot-in-order .ensures) ∙ c .before .if1 .taken))
 
 returns-2 : tie.Need-returns-2
-returns-2 c = c .nothing .ensures ∙ sym (asked-not-in-order _ (sym (c .before .before .slot-in-order .ensures) ∙ c .before .if1 .left))
+returns-2 c = c .bare-refusal .ensures ∙ sym (asked-not-in-order _ (sym (c .before .before .slot-in-order .ensures) ∙ c .before .if1 .left))
 
 pub ask-of-spec : {M : Type 1} → statement M
 ask-of-spec = tie.close (tie.spec (λ c κs. search needs) (λ c κs. search needs) (λ c κs. search needs) returns returns-2)

@@ -9,7 +9,7 @@ use Rattle.session.proofs.deliver_to.Statement.{statement}
 use Rattle.session.proofs.deliver_to.Tie as tie
 
 returns : tie.Need-returns
-returns c = rw (c .nothing .ensures) (sym (not-in-order _ _ (sym (c .before .before .slot-in-order .ensures) ∙ not-true _ (c .before .if1 .taken))))
+returns c = rw (c .bare-refusal .ensures) (sym (not-in-order _ _ (sym (c .before .before .slot-in-order .ensures) ∙ not-true _ (c .before .if1 .taken))))
 
 returns-2 : tie.Need-returns-2
 returns-2 c =

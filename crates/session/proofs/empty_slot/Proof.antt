@@ -6,7 +6,7 @@ use Rattle.session.proofs.empty_slot.Tie as tie
 
 returns : tie.Need-returns
 unfolding emptySlot
-returns c = simp (c .fresh .ensures)
+returns c = simp (c .fresh .ensures, c .before .zero-record .ensures)
 
 pub empty-slot-spec : {M : Type 1} → statement M
-empty-slot-spec = tie.close (tie.spec (λ c κs. search needs) returns)
+empty-slot-spec = tie.close (tie.spec (λ c κs. search needs) (λ c κs. search needs) returns)

@@ -1,12 +1,13 @@
 -- `place_of` is where a note's slot stands. Assumes nothing.
 use borrow.Author.Needs.{needs}
 use mathlib.Core.Path.{sym, _∙_}
-use Rattle.session.proofs.Places.{from-one, place-of-note, place-of-no-note}
+use Rattle.rules.proofs.Rules.{is-note-is}
+use Rattle.session.proofs.Places.{place-of-note, place-of-no-note}
 use Rattle.session.proofs.place_of.Statement.{statement}
 use Rattle.session.proofs.place_of.Tie as tie
 
 sub-result : tie.Need-sub-result
-sub-result c = from-one _ (sym (c .before .is-note .ensures) ∙ c .if1 .taken)
+sub-result c = is-note-is _ .0 (sym (c .before .is-note .ensures) ∙ c .if1 .taken) .0
 
 returns : tie.Need-returns
 returns c = sym (place-of-note _ (sym (c .before .is-note .ensures) ∙ c .if1 .taken))

@@ -1,4 +1,4 @@
--- `waiting_slot` is a slot of which nothing has come yet. Assumes nothing.
+-- `waiting_slot` is a slot of which bareRefusal has come yet. Assumes nothing.
 use borrow.Author.Needs.{needs}
 use Rattle.session.specs.Slots.{waitingSlot}
 use Rattle.session.proofs.waiting_slot.Statement.{statement}

@@ -1,4 +1,4 @@
--- `sheet::bad_line` makes the record of its name. Assumes nothing.
+-- `bad_line` makes the record of its name. Assumes nothing.
 use mathlib.Core.Path.{refl}
 use Rattle.sheet.specs.Judging.{badLine}
 use Rattle.sheet.proofs.bad_line.Statement.{statement}

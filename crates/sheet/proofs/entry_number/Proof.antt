@@ -1,4 +1,4 @@
--- `sheet::entry_number` judges a well-formed note line. Assumes nothing.
+-- `entry_number` judges a well-formed note line. Assumes nothing.
 use mathlib.Core.Path.{sym}
 use Rattle.same.proofs.Tests.{refuted, confirmed}
 use Rattle.sheet.proofs.Verdicts.{entry-note, entry-length, entry-loop, entry-good}

@@ -1,4 +1,4 @@
--- `sheet::header_number` judges a header. Assumes nothing.
+-- `header_number` judges a header. Assumes nothing.
 use mathlib.Core.Path.{sym}
 use Rattle.same.proofs.Tests.{refuted, confirmed}
 use Rattle.sheet.proofs.Verdicts.{header-ill, header-bad, header-good}

@@ -1,4 +1,4 @@
--- `sheet::judged` finds the first bad line. The invariant: the verdict is that on the lines that are left, from the place and the note reached.
+-- `judged` finds the first bad line. The invariant: the verdict is that on the lines that are left, from the place and the note reached.
 -- Assumes nothing.
 use Prim.Native.Nat.{_+_, _≤_, _-_}
 use mathlib.Core.Path.{_≡_, sym, _∙_}

@@ -1,4 +1,4 @@
--- `sheet::note_number` judges a note line. Assumes nothing.
+-- `note_number` judges a note line. Assumes nothing.
 use mathlib.Core.Path.{sym, _∙_}
 use Rattle.sheet.proofs.Verdicts.{line-ill, line-well}
 use borrow.Author.Needs.{needs}

@@ -2,8 +2,7 @@
 use borrow.Author.Needs.{needs}
 use mathlib.Core.Path.{_≡_}
 use lib.ListN.{length}
-use Rattle.session.specs.Deliver.{deliver}
-use Rattle.session.specs.Places.{deliverAt}
+use Rattle.session.specs.Deliver.{deliverAt, deliver}
 use Rattle.session.proofs.Lists.{length-of-image}
 use Rattle.session.proofs.Places.{place-lt, put-back}
 use Rattle.session.proofs.Session.deliver.Statement.{statement}

@@ -1,0 +1,20 @@
+-- `loop_rule` is rule 4. Assumes nothing.
+use borrow.Author.Needs.{needs}
+use borrow.Author.Tests.{lt-ltb, le-ltb}
+use Rattle.rules.specs.Rules.{loopRule}
+use Rattle.rules.proofs.Rules.{whole-frames}
+use Rattle.rules.proofs.loop_rule.Statement.{statement}
+use Rattle.rules.proofs.loop_rule.Tie as tie
+
+returns : tie.Need-returns
+unfolding loopRule
+returns c =
+    let at = c .before .before .args in
+    simp (lt-ltb _ _ (c .if1 .taken), whole-frames (at .bytes) (c .before .frames .result) (c .before .frames .ensures))
+
+returns-2 : tie.Need-returns-2
+unfolding loopRule
+returns-2 c = simp (le-ltb _ _ (c .if1 .left))
+
+pub loop-rule-spec : {M : Type 1} → statement M
+loop-rule-spec = tie.close (tie.spec (λ c. search needs) (λ c. search needs) (λ c κs. search needs) returns returns-2)

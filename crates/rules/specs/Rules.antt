@@ -1,0 +1,34 @@
+-- Rules 2 to 4: document 01, "The rank sheet". A line is judged by all of them; a slot in order "obeys rules 3 and 4".
+use Prim.Native.Nat.{ℕ, _/_, _%_}
+use mathlib.Core.Bool.{Bool, _&&_}
+use lib.Dec.{leb, ltb, eqb}
+use lib.ListN.{replicate}
+use Rattle.rules.specs.declared.Record.{Record}
+
+-- "the number of notes n, 1..32"
+unfoldable pub countRule : ℕ → Bool
+countRule count = leb 1 count && leb count 32
+
+-- "Notes are 1..32,
+unfoldable pub isNote : ℕ → Bool
+isNote note = leb 1 note && leb note 32
+
+-- rising strictly": above the note of the line before, or above 0
+unfoldable pub noteRule : ℕ → ℕ → Bool
+noteRule last note = isNote note && ltb last note
+
+-- "Length is even, 2 to 4294967294"
+unfoldable pub lengthRule : ℕ → Bool
+lengthRule bytes = eqb (bytes % 2) 0 && leb 2 bytes && leb bytes 4294967294
+
+-- "The loop obeys start < end <= length/2": frames, and one frame is two bytes
+unfoldable pub loopRule : ℕ → ℕ → ℕ → Bool
+loopRule bytes start end = ltb start end && leb end (bytes / 2)
+
+-- a record that "obeys rules 3 and 4"
+unfoldable pub obeys : Record → Bool
+obeys r = lengthRule (r .length) && loopRule (r .length) (r .start) (r .end)
+
+-- "record zero"
+unfoldable pub zeroRecord : Record
+zeroRecord = record { length = 0; start = 0; end = 0; digest = replicate 32 0 }
