@@ -1,33 +1,44 @@
 -- A piece that a waiting slot takes. Assumes nothing.
-use Prim.Native.Nat.{ℕ, _+_, _≤_}
+use Prim.Native.Nat.{ℕ, _+_, _≤_, _<_}
 use mathlib.Core.Path.{_≡_, refl, sym, ap, _∙_}
 use mathlib.Core.List.{List, []}
-use mathlib.Core.Bool.{Bool, true, false}
+use mathlib.Core.Bool.{Bool, true, false, cond, true≢false}
+use mathlib.Core.Logic.{_↔_}
 use native.Mathlib.Omega.{arith}
 use borrow.Author.Tests.{ltb-true, ltb-false}
 use lib.Dec.{ltb}
 use lib.ListN.{length}
 use Rattle.refusal.specs.Table.{accepted}
-use Rattle.same.proofs.Tests.{first}
+use Rattle.same.proofs.Tests.{first, never}
 use Rattle.hash.specs.State.{inOrder}
 use Rattle.hash.specs.Update.{taken, update}
-use Rattle.hash.specs.Digests.{compareState}
+use Rattle.hash.specs.Digests.{finish, compareState}
 use Rattle.hash.specs.declared.Hash.{Hash}
-use Rattle.hash.proofs.Taking.{taken-nil}
+use Rattle.hash.proofs.Taking.{taken-nil, inOrder-taken}
+use Rattle.hash.proofs.Kept.{kept}
 use Rattle.hash.proofs.Updating.{update-takes}
 use Rattle.rules.specs.Rules.{lengthRule, obeys}
-use Rattle.session.specs.Slots.{waiting, slotInOrder, takenOf}
+use Rattle.session.specs.Slots.{waiting, opened, shut, slotInOrder, takenOf}
 use Rattle.session.specs.Deliver.{decidedSlot, withPiece}
 use Rattle.session.specs.declared.Slot.{Slot}
 use Rattle.rules.proofs.Rules.{length-rule-is}
 use Rattle.session.proofs.Slots.{slot-in-order-is, when-waiting, taken-waiting, has-room}
 use Rattle.session.proofs.Deliver.{waits-on, decides}
 
--- a decidedSlot slot has taken its length
+-- a decided slot has taken its length
 decided-taken : (s : Slot) (h : Hash) (b : Bool) → compareState h (s .sample .digest) .same ≡ b → takenOf (decidedSlot s h) ≡ s .sample .length
 unfolding decidedSlot takenOf
 decided-taken s h true e = rw e
 decided-taken s h false e = rw e
+
+-- open or shut tells the test
+is-opened : (b : Bool) → cond b opened shut ≡ opened → b ≡ true
+is-opened true e = refl
+is-opened false e = absurd (omega arith)
+
+is-shut : (b : Bool) → cond b opened shut ≡ shut → b ≡ true → ⊥
+is-shut true e t = omega arith
+is-shut false e t = true≢false (sym t)
 
 module _ (s : Slot) (o : slotInOrder s ≡ true) (w : s .status ≡ waiting) where
   state-in-order : inOrder (s .state) ≡ true
@@ -58,6 +69,27 @@ module _ (s : Slot) (o : slotInOrder s ≡ true) (w : s .status ≡ waiting) whe
 
     pub counted : takenOf (withPiece s piece) ≡ takenOf s + length piece
     counted = counts _ refl
+
+    -- the status that it leaves
+    pub waits : takenOf s + length piece < s .sample .length → withPiece s piece .status ≡ waiting
+    waits below = ap (λ (x : Slot). x .status) (waits-on s piece _ (sym takes) (rw total-after below))
+
+    module _ (full : takenOf s + length piece ≡ s .sample .length) where
+      status-is : withPiece s piece .status ≡ cond (compareState h (s .sample .digest) .same) opened shut
+      unfolding decidedSlot
+      status-is = ap (λ (x : Slot). x .status) (decides s piece _ (sym takes) (let t = total-after in omega arith))
+
+      fits-is : (compareState h (s .sample .digest) .same ≡ true) ↔ (s .sample .digest ≡ finish h .bytes)
+      fits-is =
+          let compared = kept .stateCompared h (s .sample .digest) .3 in
+          let ordered : inOrder h ≡ true = inOrder-taken (s .state) state-in-order piece (let t = taken-waiting s w in let l = length-fits in omega arith) in
+          (λ e. compared .0 e .1, λ e. compared .1 (ordered, e))
+
+      pub opens : (withPiece s piece .status ≡ opened) ↔ (s .sample .digest ≡ finish h .bytes)
+      opens = (λ e. fits-is .0 (is-opened _ (sym status-is ∙ e)), λ e. status-is ∙ rw (fits-is .1 e))
+
+      pub shuts : (withPiece s piece .status ≡ shut) ↔ (s .sample .digest ≡ finish h .bytes → ⊥)
+      shuts = (λ e f. is-shut _ (sym status-is ∙ e) (fits-is .1 f), λ e. status-is ∙ rw (never _ (λ f. e (fits-is .0 f))))
 
   pub empty-piece : withPiece s [] ≡ s
   empty-piece =

@@ -7,6 +7,8 @@ use mathlib.Core.Bool.{true, false}
 use lib.ListN.{length, getD, set}
 use Rattle.refusal.specs.Table.{accepted, unlisted, slot-not-in-order, decided, past-length}
 use Rattle.hash.specs.State.{fresh, inOrder}
+use Rattle.hash.specs.Update.{taken}
+use Rattle.hash.specs.Digests.{finish}
 use Rattle.rules.specs.Rules.{obeys}
 use Rattle.session.specs.Slots.{absent, waiting, opened, shut, slotInOrder, takenOf, emptySlot}
 use Rattle.session.specs.Deliver.{bareRefusal, asItStands, withPiece, deliverTo, slotOf, onNote, deliver, ask}
@@ -60,6 +62,13 @@ pub data AskRow (s : Session) (note : ℕ) : Answer → Type 0 where
   ask6 : Listed s note → slotInOrder (slotOf s note) ≡ false → AskRow s note (bareRefusal slot-not-in-order)
   ask0 : Listed s note → slotInOrder (slotOf s note) ≡ true → AskRow s note (asItStands accepted (slotOf s note))
 
+-- What a piece that fits makes of a waiting note, from any stored slot in order: below the length it waits; "A piece that reaches the length exactly decides
+-- the note", open exactly when final answers the record's digest.
+pub record Outcome (slot : Slot) (piece : List ℕ) (status : ℕ) : Type 0 where
+  pub waits : takenOf slot + length piece < slot .sample .length → status ≡ waiting
+  pub opens : takenOf slot + length piece ≡ slot .sample .length → (status ≡ opened) ↔ (slot .sample .digest ≡ finish (taken (slot .state) piece) .bytes)
+  pub shuts : takenOf slot + length piece ≡ slot .sample .length → (status ≡ shut) ↔ (slot .sample .digest ≡ finish (taken (slot .state) piece) .bytes → ⊥)
+
 -- two operations on different notes, in either order: the same answers, and the same session at the end
 pub record Apart (s : Session) (m n : ℕ) (f g : Slot → Step) : Type 0 where
   pub answers : onNote (onNote s m f .session) n g .answer ≡ onNote s n g .answer
@@ -78,6 +87,9 @@ pub record Promises : Type 0 where
   -- "An empty piece to a waiting note is accepted and changes nothing"
   pub emptyPiece : (s : Session) (note : ℕ) → Listed s note → slotInOrder (slotOf s note) ≡ true → slotOf s note .status ≡ waiting
       → deliver s note [] ≡ record { answer = asItStands accepted (slotOf s note); session = s }
+  -- open, shut or waiting, by the bytes taken and the piece alone
+  pub outcome : (s : Session) (note : ℕ) (piece : List ℕ) → Listed s note → slotInOrder (slotOf s note) ≡ true → slotOf s note .status ≡ waiting
+      → Outcome (slotOf s note) piece (deliver s note piece .answer .status)
   -- bytes taken are those taken before and the piece, decided or not
   pub counted : (s : Session) (note : ℕ) (piece : List ℕ) → deliver s note piece .answer .no ≡ accepted
       → deliver s note piece .answer .taken ≡ takenOf (slotOf s note) + length piece

@@ -15,6 +15,7 @@ use Rattle.sheet_promises.specs.Promises.{Promises, Lists}
 use Rattle.sheet_promises.proofs.Numbers.{one-decimal}
 use Rattle.sheet_promises.proofs.Sheets.{sheet-accepted, sheet-entries, bad-refused, never-accepted, sheet-or-refused}
 use Rattle.sheet_promises.proofs.Listing.{lists-entries}
+use Rattle.sheet_promises.proofs.Sizes.{sheet-size}
 
 -- a sheet's verdict, and a refused text's
 sheet-number : (text : List ℕ) (es : List Entry) → IsSheet text es → judged text .no ≡ accepted
@@ -59,6 +60,7 @@ kept =
             (ap (λ (v : Verdict). v .no) e, ap (λ (v : Verdict). v .line) e, never-accepted text number line r),
       );
       refused = bad-session;
+      size = sheet-size;
       one-spelling = λ text other value n m. one-decimal text other value value (n .0) (m .0) refl;
       one-reading = λ text es others s t. sym (sheet-entries text es s) ∙ sheet-entries text others t;
     }

@@ -8,4 +8,5 @@ pub mod Notes
 pub mod Sheets
 pub mod Listing
 pub mod Records
+pub mod Sizes
 pub mod Kept

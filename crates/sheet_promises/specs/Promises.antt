@@ -35,6 +35,8 @@ pub record Promises : Type 0 where
       → ((sheetOf text .no ≡ number) × (sheetOf text .line ≡ line) × (number ≡ accepted → ⊥)) ↔ Refused text number line
   -- "session with no note listed"
   pub refused : (text : List ℕ) → (sheetOf text .no ≡ accepted → ⊥) → sheetOf text .session ≡ emptySession
+  -- "a valid sheet has at most 3,233" bytes
+  pub size : (text : List ℕ) (es : List Entry) → IsSheet text es → length text ≤ 3233
   -- a number has one spelling, and a sheet's lines are what they are
   pub one-spelling : (text other : List ℕ) (value : ℕ) → IsNumber text value → IsNumber other value → text ≡ other
   pub one-reading : (text : List ℕ) (es others : List Entry) → IsSheet text es → IsSheet text others → es ≡ others
