@@ -129,9 +129,11 @@ static void put_hex(const uint8_t *b, size_t n) {
         printf("%02x", b[i]);
 }
 
+static void put_words(vs_words w) { printf("%08x%08x%08x%08x%08x%08x%08x%08x", w.a, w.b, w.c, w.d, w.e, w.f, w.g, w.h); }
+
 static void put_state(const vs_hash *h) {
-    const vs_words *w = &h->words;
-    printf("%08x%08x%08x%08x%08x%08x%08x%08x:%llu:", w->a, w->b, w->c, w->d, w->e, w->f, w->g, w->h, (unsigned long long)h->total);
+    put_words(h->words);
+    printf(":%llu:", (unsigned long long)h->total);
     put_hex(h->tail, VS_BLOCK);
 }
 
@@ -183,6 +185,8 @@ static bool hash_call(const char *name, char **f, int fields) {
     if (strcmp(name, "fresh") == 0 && fields == 1) {
         state = vs_fresh();
         put_state(&state);
+    } else if (strcmp(name, "fold") == 0 && end && !*end && whole) {
+        put_words(vs_fold(state.words, second.at, second.length));
     } else if (strcmp(name, "update") == 0 && end && !*end && whole) {
         vs_updated u = vs_update(state, second.at, second.length);
         printf("%u\t", u.no);

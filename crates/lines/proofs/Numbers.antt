@@ -9,7 +9,7 @@ use lib.Dec.{leb}
 use lib.ListN.{length, getD, drop, drop-of-length-le}
 use lib.Seq.{drop-cons}
 use Rattle.same.proofs.Tests.{first, second}
-use Rattle.lines.specs.Reading.{number, fieldIs, fieldFault, isFigure, withFigure, goesOn, figures, numberFrom, numberAt}
+use Rattle.lines.specs.Reading.{number, fieldIs, fieldFault, isFigure, withFigure, goesOn, figures, firstNumber, numberAt}
 
 -- a figure's code
 pub figure-from : (byte : ℕ) → isFigure byte ≡ true → 0x30 ≤ byte
@@ -52,16 +52,16 @@ goes-by value byte h low = simp (h, le-leb 1 value low)
 
 -- where a number begins, and where none does
 pub number-past : (text : List ℕ) (at : ℕ) → length text ≤ at → numberAt text at ≡ fieldFault number at
-unfolding numberAt numberFrom
+unfolding numberAt firstNumber
 number-past text at h = rw (drop-of-length-le text h)
 
 pub number-not : (text : List ℕ) (at : ℕ) → at < length text → isFigure (getD text at 0) ≡ false → numberAt text at ≡ fieldFault number at
-unfolding numberAt numberFrom
+unfolding numberAt firstNumber
 number-not text at h not = rw (drop-cons text at 0 h) (simp not)
 
 pub number-begins : (text : List ℕ) (at : ℕ) → at < length text → isFigure (getD text at 0) ≡ true
     → numberAt text at ≡ figures (getD text at 0 - 0x30) (at + 1) (drop (at + 1) text)
-unfolding numberAt numberFrom
+unfolding numberAt firstNumber
 number-begins text at h figure = rw (drop-cons text at 0 h) (simp (figure, add-one at))
 
 -- and how it goes on and stops

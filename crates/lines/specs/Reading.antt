@@ -77,12 +77,12 @@ figures value at [] = fieldIs value at
 figures value at (byte ∷ rest) = cond (goesOn value byte) (figures (withFigure value byte) (at + 1) rest) (fieldIs value at)
 
 -- "Numbers are decimal": the number that stands first in the bytes from a place
-unfoldable pub numberFrom : ℕ → List ℕ → Field
-numberFrom at [] = fieldFault number at
-numberFrom at (byte ∷ rest) = cond (isFigure byte) (figures (byte - 0x30) (at + 1) rest) (fieldFault number at)
+unfoldable pub firstNumber : ℕ → List ℕ → Field
+firstNumber at [] = fieldFault number at
+firstNumber at (byte ∷ rest) = cond (isFigure byte) (figures (byte - 0x30) (at + 1) rest) (fieldFault number at)
 
 unfoldable pub numberAt : List ℕ → ℕ → Field
-numberAt text at = numberFrom at (drop at text)
+numberAt text at = firstNumber at (drop at text)
 
 -- a number and the byte that ends its field
 unfoldable pub fieldAt : List ℕ → ℕ → ℕ → Field

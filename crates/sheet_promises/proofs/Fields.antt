@@ -8,7 +8,7 @@ use native.Mathlib.Omega.{arith}
 use borrow.Author.Tests.{eqb-true, eqb-false}
 use lib.Dec.{eqb}
 use lib.ListN.{length, drop, length-append}
-use Rattle.lines.specs.Reading.{nothing, separator, fieldIs, fieldFault, isFigure, hasAt, numberFrom, numberAt, fieldAt}
+use Rattle.lines.specs.Reading.{nothing, separator, fieldIs, fieldFault, isFigure, hasAt, firstNumber, numberAt, fieldAt}
 use Rattle.lines.specs.declared.Field.{Field}
 use Rattle.lines.proofs.Lines.{field-none, field-open, field-closed}
 use Rattle.lines.proofs.Tests.{either}
@@ -29,7 +29,7 @@ field-read text piece rest at value ending other f e =
     let stands : drop at text ≡ digits ++ (ending ∷ rest) =
     e ∙ ap (λ (l : List ℕ). l ++ rest) (f .whole) ∙ append-assoc digits (ending ∷ []) rest in
     let n : numberAt text at ≡ fieldIs value (at + length digits) =
-    ap (numberFrom at) stands ∙ number-read at digits value ending rest (f .is-number) other in
+    ap (firstNumber at) stands ∙ number-read at digits value ending rest (f .is-number) other in
     let closed : hasAt text (at + length digits) ending ≡ true = stands-has text rest (at + length digits) ending (behind text digits (ending ∷ rest) at stands) in
     let place : at + length digits + 1 ≡ at + length piece = omega (arith, ap length (f .whole), length-append digits (ending ∷ [])) in
     sym (field-closed text at ending (fieldIs value (at + length digits)) (sym n) refl closed) ∙ ap (fieldIs value) place

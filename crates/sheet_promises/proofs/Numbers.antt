@@ -7,7 +7,7 @@ use native.Mathlib.Nat.{add-zero}
 use native.Mathlib.Omega.{arith}
 use borrow.Author.Tests.{le-leb}
 use lib.ListN.{length, length-append}
-use Rattle.lines.specs.Reading.{nothing, number, fieldIs, fieldFault, isFigure, withFigure, goesOn, figures, numberFrom}
+use Rattle.lines.specs.Reading.{nothing, number, fieldIs, fieldFault, isFigure, withFigure, goesOn, figures, firstNumber}
 use Rattle.lines.proofs.Numbers.{figure-from, figure-to, is-figure, goes-figure, goes-positive, goes-fits, goes-by, goes-not}
 use Rattle.sheet_promises.specs.Grammar.{Decimal, figure, longer, IsNumber}
 
@@ -17,8 +17,8 @@ figure-value d = omega arith
 
 -- the reader has come through a decimal number
 pub through : (at : ℕ) (text : List ℕ) (value : ℕ) (rest : List ℕ) → Decimal text value → value ≤ 4294967295
-    → numberFrom at (text ++ rest) ≡ figures value (at + length text) rest
-unfolding numberFrom figures withFigure
+    → firstNumber at (text ++ rest) ≡ figures value (at + length text) rest
+unfolding firstNumber figures withFigure
 through at text value rest (figure d below) fits =
     simp (is-figure (0x30 + d) (omega arith) (omega arith), figure-value d)
 through at text value rest (longer {text = front} {value = high} d begun positive below) fits =
@@ -26,13 +26,13 @@ through at text value rest (longer {text = front} {value = high} d begun positiv
     let goes : goesOn high c ≡ true =
     goes-by high c (is-figure c (omega arith) (omega arith)) positive ∙ le-leb (high * 10 + (c - 0x30)) 4294967295 (omega arith) in
     let place : at + length front + 1 ≡ at + length (front ++ (c ∷ [])) = omega (arith, length-append front (c ∷ [])) in
-    ap (numberFrom at) (append-assoc front (c ∷ []) rest)
+    ap (firstNumber at) (append-assoc front (c ∷ []) rest)
     ∙ through at front high (c ∷ rest) begun (omega arith)
     ∙ simp (goes, figure-value d, place)
 
 -- a number before a byte that is no figure is read
 pub number-read : (at : ℕ) (text : List ℕ) (value ending : ℕ) (rest : List ℕ) → IsNumber text value → isFigure ending ≡ false
-    → numberFrom at (text ++ (ending ∷ rest)) ≡ fieldIs value (at + length text)
+    → firstNumber at (text ++ (ending ∷ rest)) ≡ fieldIs value (at + length text)
 unfolding IsNumber figures
 number-read at text value ending rest n other = through at text value (ending ∷ rest) (n .0) (n .1) ∙ simp (goes-not value ending other)
 
@@ -96,11 +96,11 @@ pub record Begins (at : ℕ) (s : List ℕ) : Type 0 where
   pub rest : List ℕ
   pub value : ℕ
   pub cut : s ≡ text ++ rest
-  pub read : numberFrom at s ≡ fieldIs value (at + length text)
+  pub read : firstNumber at s ≡ fieldIs value (at + length text)
   pub is-number : IsNumber text value
 
-pub begins : (at : ℕ) (s : List ℕ) → numberFrom at s .wanted ≡ nothing → Begins at s
-unfolding numberFrom fieldFault
+pub begins : (at : ℕ) (s : List ℕ) → firstNumber at s .wanted ≡ nothing → Begins at s
+unfolding firstNumber fieldFault
 begins at [] h = absurd (omega arith)
 begins at (byte ∷ s) h = go (isFigure byte) refl
   where

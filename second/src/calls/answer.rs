@@ -6,12 +6,14 @@ use crate::hash::{self, Compared, Digested, State};
 use crate::padding::{self, Part, Source};
 use crate::session::{self, Answer, Session, WAITING};
 use crate::sheet::{self, Sheet};
+use crate::sm3;
 
 /// The answers, tab-parted. Nothing where bytes would be needed that are not
 /// there: such a call may not be made.
 pub fn answer(call: &Call) -> Option<String> {
     match call {
         Call::Fresh => Some(state_text(&State::fresh())),
+        Call::Fold { state, bytes } => Some(fold(state, bytes)),
         Call::Update { state, piece, .. } => update(state, piece),
         Call::Finish { state } => Some(digest_text(state.finish())),
         Call::Digest { message } => digest(message).map(digest_text),
@@ -50,6 +52,12 @@ pub fn answer_lines(
         writeln!(out, "{}", answers.as_deref().unwrap_or("?"))?;
     }
     out.flush()
+}
+
+/// Only whole blocks are folded.
+fn fold(state: &State, bytes: &[u8]) -> String {
+    let whole = &bytes[..bytes.len() / 64 * 64];
+    bytes_text(&sm3::to_bytes(&sm3::fold(&state.words, whole)))
 }
 
 fn update(state: &State, piece: &Lent) -> Option<String> {

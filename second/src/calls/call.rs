@@ -9,6 +9,10 @@ use crate::session::Session;
 #[derive(Clone, Debug, PartialEq, Eq)]
 pub enum Call {
     Fresh,
+    Fold {
+        state: State,
+        bytes: Vec<u8>,
+    },
     Update {
         in_place: bool,
         state: State,
@@ -64,6 +68,7 @@ impl Call {
     pub fn name(&self) -> &'static str {
         match self {
             Call::Fresh => "fresh",
+            Call::Fold { .. } => "fold",
             Call::Update { in_place, .. } => either(*in_place, "update_in_place", "update"),
             Call::Finish { .. } => "finish",
             Call::Digest { .. } => "digest",
@@ -85,6 +90,7 @@ impl Call {
         use values::{bytes_text, lent_text, session_text, state_text};
         match self {
             Call::Fresh => vec![],
+            Call::Fold { state, bytes } => vec![state_text(state), bytes_text(bytes)],
             Call::Update { state, piece, .. } => vec![state_text(state), lent_text(piece)],
             Call::Finish { state } => vec![state_text(state)],
             Call::Digest { message } => vec![lent_text(message)],
@@ -145,6 +151,10 @@ fn either(yes: bool, one: &'static str, other: &'static str) -> &'static str {
 fn hash_call(name: &str, arguments: &[&str]) -> Option<Call> {
     match (name, arguments) {
         ("fresh", []) => Some(Call::Fresh),
+        ("fold", [state, bytes]) => Some(Call::Fold {
+            state: values::parse_state(state)?,
+            bytes: values::parse_bytes(bytes)?,
+        }),
         ("update" | "update_in_place", [state, piece]) => Some(Call::Update {
             in_place: name == "update_in_place",
             state: values::parse_state(state)?,

@@ -44,8 +44,9 @@ impl Weighted for Kind {
     }
 }
 
-const KINDS: [Kind; 27] = [
+const KINDS: [Kind; 28] = [
     kind("fresh", "fresh", 1, states::fresh),
+    kind("fold", "fold", 4, states::fold),
     kind("update", "update", 12, states::update),
     kind("update_in_place", "update", 12, states::update),
     kind("finish", "finish", 8, states::finish),

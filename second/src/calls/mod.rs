@@ -188,7 +188,7 @@ fn feed(input: ChildStdin, calls: &Calls, from: u64, until: u64) {
 fn answer_kind(call: &Call, ours: &str) -> String {
     let fields: Vec<&str> = ours.split('\t').collect();
     match (call, &fields[..]) {
-        (Call::Fresh, _) => "state".to_string(),
+        (Call::Fresh | Call::Fold { .. }, _) => "state".to_string(),
         (Call::Block { part: true, .. }, [which, ..]) => format!("block-part-{which}"),
         (Call::Remove { part: true, .. }, _) => "removed-part".to_string(),
         (Call::CompareMessage { .. } | Call::CompareState { .. }, ["0", same]) => {

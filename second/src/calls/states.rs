@@ -40,6 +40,16 @@ pub fn fresh(_wish: &mut Wish) -> Call {
     Call::Fresh
 }
 
+/// Any eight words, and bytes that end anywhere in a block.
+pub fn fold(wish: &mut Wish) -> Call {
+    let state = state(&mut wish.random, wish.ordinal);
+    let length = message_length(&mut wish.random, wish.ordinal);
+    Call::Fold {
+        bytes: wish.random.bytes(length),
+        state,
+    }
+}
+
 pub fn update(wish: &mut Wish) -> Call {
     let state = state(&mut wish.random, wish.ordinal);
     let length = piece_length(&mut wish.random, &state);

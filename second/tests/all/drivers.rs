@@ -90,12 +90,12 @@ fn a_call_program_that_is_wrong_or_ends_is_seen() {
 fn the_call_that_ends_the_program_is_found() {
     let folder = help::folder("calls-end");
     let program = format!("sed '/^deliver\t.*@/,$d' | {SECOND} answer-calls");
-    let output = drive(&folder, &["calls", "420", "3", "sh", "-c", &program]);
+    let output = drive(&folder, &["calls", "428", "3", "sh", "-c", &program]);
     let all = said(&output);
     assert!(last_line(&output).ends_with("\tdiffer 2"), "{all}");
     assert_eq!(all.matches("(deliver@)\n").count(), 2, "{all}");
     let without = ["calls", "--without", "deliver@"];
-    let rest = ["420", "3", "sh", "-c", &program];
+    let rest = ["428", "3", "sh", "-c", &program];
     let output = drive(&folder, &[&without[..], &rest[..]].concat());
     assert!(last_line(&output).ends_with("\tdiffer 0"));
 }
