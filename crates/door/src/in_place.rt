@@ -2,7 +2,7 @@
 ghost use mathlib.Core.Path.{_≡_};
 ghost use Rattle.hash.specs.Update.{update as updated};
 ghost use Rattle.session.specs.Deliver.{deliver as delivered, ask as asked};
-ghost use Rattle.sheet.specs.Judging.{sheetOf};
+ghost use Rattle.sheet.specs.Judging.{judged, sheetOf};
 use hash::Hash;
 use session::Answer;
 use session::Session;
@@ -35,7 +35,7 @@ pub extern "C" fn vs_ask_in_place(session: &Session, note: u64) -> Answer
 // A rank sheet, read into a lent session.
 #[no_mangle]
 pub extern "C" fn vs_sheet_read_in_place(session: &mut Session, text: &[u8]) -> Verdict
-    ensures { λ r. ⌜ (r .no ≡ sheetOf (now (text .entry)) .no) × (r .line ≡ sheetOf (now (text .entry)) .line) × (now (session .exit) ≡ sheetOf (now (text .entry)) .session) ⌝ }
+    ensures { λ r. ⌜ (r ≡ judged (now (text .entry))) × (now (session .exit) ≡ sheetOf (now (text .entry)) .session) ⌝ }
 {
     filling::read_into(session, text)
 }

@@ -11,10 +11,8 @@ use Rattle.sheet.specs.declared.Sheet.{Sheet}
 use Rattle.sheet.specs.declared.Start.{Start}
 use Rattle.sheet.proofs.Filling.{sheet-session}
 
--- the whole answer, of the verdict, of where the note lines begin, and of the session that they are listed in
+-- the session, of the verdict, of where the note lines begin, and of the session that they are listed in
 pub answered : (text : List ℕ) (v : Verdict) (b : Start) (s₀ s : Session) → v ≡ judged text → b ≡ start text v → s₀ ≡ emptySession → s ≡ withNotes s₀ (entriesAt (b .notes) text (b .at))
-    → (v .no ≡ sheetOf text .no) × (v .line ≡ sheetOf text .line) × (s ≡ sheetOf text .session)
+    → (v ≡ judged text) × (s ≡ sheetOf text .session)
 unfolding sheetIs
-answered text v b s₀ s ev eb e₀ es =
-    let whole : sheetIs v s ≡ sheetOf text = sheet-session text v b s ev eb (es ∙ rw e₀) in
-    (ap (λ (r : Sheet). r .no) whole, ap (λ (r : Sheet). r .line) whole, ap (λ (r : Sheet). r .session) whole)
+answered text v b s₀ s ev eb e₀ es = (ev, ap (λ (r : Sheet). r .session) (sheet-session text v b s ev eb (es ∙ rw e₀)))

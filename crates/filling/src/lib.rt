@@ -1,6 +1,6 @@
 // The rank sheet, read into a lent session.
 ghost use mathlib.Core.Path.{_≡_};
-ghost use Rattle.sheet.specs.Judging.{entriesAt, withNotes, sheetOf};
+ghost use Rattle.sheet.specs.Judging.{judged, entriesAt, withNotes, sheetOf};
 ghost use Rattle.session.specs.Slots.{emptySession};
 use session::Session;
 use sheet::Verdict;
@@ -33,9 +33,7 @@ fn fill(s: &mut Session, text: &[u8], at: usize, notes: u32)
 
 // A rank sheet, read into a lent session.
 pub fn read_into(s: &mut Session, text: &[u8]) -> Verdict
-    ensures { λ r. ⌜ (r .no ≡ sheetOf (now (text .entry)) .no)
-        × (r .line ≡ sheetOf (now (text .entry)) .line)
-        × (now (s .exit) ≡ sheetOf (now (text .entry)) .session) ⌝ }
+    ensures { λ r. ⌜ (r ≡ judged (now (text .entry))) × (now (s .exit) ≡ sheetOf (now (text .entry)) .session) ⌝ }
 {
     let v = sheet::judged(text);
     let from = sheet::start_of(text, v);

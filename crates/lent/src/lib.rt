@@ -34,7 +34,7 @@ impl Card {
     // Folds a piece into the card's state, and answers the number.
     pub fn feed(&mut self, piece: &[u8]) -> u8
         ensures { λ r. ⌜ (r ≡ updated (now (self .entry) .state) (now (piece .entry)) .no)
-            × (now (self .exit) .state ≡ updated (now (self .entry) .state) (now (piece .entry)) .state) ⌝ }
+            × (now (self .exit) ≡ record { state = updated (now (self .entry) .state) (now (piece .entry)) .state }) ⌝ }
     {
         let before = self.state;
         let after = before.update(piece);

@@ -98,7 +98,7 @@ module _ {M : Type 1} (𝓤 : URA M) (H : Heap 𝓤) (A : Atoms 𝓤) (W : Given
         land ! (from ! (stop !)) (init ! 11 refl (tt, tt)) $ fsplit ! $ move ! (2 ∷ 4 ∷ 0 ∷ []) $ regains ! tt Places (ws .0) (s .ptr .0) (s .ptr .1) $ move ! (1 ∷ []) $ drop ! $ move ! (1 ∷ []) $ drop ! $
         -- [the session; the open borrow; text's token; text; _7; …; _0; …]
         assigns ! (addr ! (from ! (hop ! (look ! 16 refl) (stop !)))) (from ! (stop !)) (init ! 4 refl (tt, tt)) $
-        -- and again, and the lines' notes are withNotes
+        -- and again, and the lines' notes are listed
         lends ! tt Places (named 0) (ws .0) (s .ptr .0) (s .ptr .1) (λ ν′ γ′.
         move ! (5 ∷ []) $ use1 W (‵ Text ⊛ ‵ Text) (shr-slice-copy 𝓤 H A W (named 1) (κs .1 .0) u8 .twice text (v ∷ [])) $ split ! $
         owned ! u32 (Is u32) (uint-makes 𝓤 H A W w32) (b .notes) (vint w32 (b .notes) ∷ []) (refl, notes-fit b b-is) $ owned ! usize (Is usize) (uint-makes 𝓤 H A W w64) (b .at) (vint w64 (b .at) ∷ []) (refl, at-fits b b-is) $ move ! (5 ∷ 8 ∷ 4 ∷ 2 ∷ 0 ∷ 1 ∷ []) $

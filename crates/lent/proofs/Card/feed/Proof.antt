@@ -65,7 +65,7 @@ module _ {M : Type 1} (𝓤 : URA M) (H : Heap 𝓤) (A : Atoms 𝓤) (W : Given
         -- [h; its token; piece's token; piece; _4; …; _3; …; _2; …; _1; …; _0; …]
         returns ! (look ! 12 refl) $ gone ! 12 refl refl $ gone ! 10 refl refl $ gone ! 8 refl refl $ gone ! 6 refl refl $ gone ! 4 refl refl $ free0 ! $
         owned ! u8 (Is u8) (uint-makes 𝓤 H A W w8) (r .no) (vint w8 (r .no) ∷ []) (refl, no-fits r is′) $ keep ! (2 ∷ 3 ∷ 1 ∷ 4 ∷ 0 ∷ []) $
-        by ! (ends 𝓤 H A W feed.ended stayed (feed.clauses 𝓤 H A mem run) y (vint w8 (r .no)) (r .no) (record { state = r .state }, (tt, tt)) (tt, (tt, tt)) (factI 𝓤 _ (emp 𝓤) (ap (λ (u : Updated). u .no) e, ap (λ (u : Updated). u .state) e))))))))))
+        by ! (ends 𝓤 H A W feed.ended stayed (feed.clauses 𝓤 H A mem run) y (vint w8 (r .no)) (r .no) (record { state = r .state }, (tt, tt)) (tt, (tt, tt)) (factI 𝓤 _ (emp 𝓤) (ap (λ (u : Updated). u .no) e, ap (λ (u : Updated). record { state = u .state }) e))))))))))
 
 pub feed-spec : {M : Type 1} → stated.statement M
 unfolding code.routine tablesOf
