@@ -21,12 +21,12 @@ pub fn list_none(s: &mut Session)
 fn fill(s: &mut Session, text: &[u8], at: usize, notes: u32)
     ensures { λ _. ⌜ now (s .exit) ≡ withNotes (now (s .entry)) (entriesAt notes (now (text .entry)) at) ⌝ }
 {
-    let mut place = at;
+    let mut next = at;
     let mut i: u32 = 0;
     while i < notes {
-        let l = sheet::listing_at(text, place);
+        let l = sheet::listing_at(text, next);
         s.slots[l.place] = l.slot;
-        place = l.next;
+        next = l.next;
         i += 1;
     }
 }

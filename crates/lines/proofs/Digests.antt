@@ -11,7 +11,7 @@ use lib.ListN.{length, getD, take, set, List·getD-eq-default}
 use lib.Seq.{take-suc-set, take-all}
 use Rattle.hex.specs.Digits.{digitOf, digits}
 use Rattle.hex.proofs.Digits.{rule}
-use Rattle.lines.specs.Reading.{digestIs, digestFault, digitAt, isDigitAt, pairAt, digestFrom}
+use Rattle.lines.specs.Reading.{goodDigest, digestFault, digitAt, isDigitAt, pairAt, digestFrom}
 
 -- the digit at a place by the table, and past the end
 pub digit-in : (text table : List ℕ) (at : ℕ) → table ≡ digits → getD text at 0 < 256 → getD table (getD text at 0) 0 ≡ digitAt text at
@@ -64,7 +64,7 @@ module _ (text bytes : List ℕ) (at i : ℕ) (more : i < 32) where
       (pair-both _ _ _ _ (rw (← e) h) (rw (← f) k)
       ∙ rw (e, f, add-one i, take-suc-set bytes i (digitAt text at * 16 + digitAt text (at + 1)) (omega arith)))
 
-pub all-bytes : (text bytes : List ℕ) (at i : ℕ) → 32 ≤ i → i ≤ 32 → length bytes ≡ 32 → digestFrom (32 - i) text at (take i bytes) ≡ digestIs bytes at
+pub all-bytes : (text bytes : List ℕ) (at i : ℕ) → 32 ≤ i → i ≤ 32 → length bytes ≡ 32 → digestFrom (32 - i) text at (take i bytes) ≡ goodDigest bytes at
 unfolding digestFrom
 all-bytes text bytes at i h k l =
     let none : 32 - i ≡ 0 = omega arith in

@@ -4,7 +4,7 @@ use mathlib.Core.Path.{_≡_, sym, _∙_}
 use mathlib.Core.List.{List, [], _∷_}
 use mathlib.Core.Bool.{true, false}
 use borrow.Author.Tests.{eq-eqb, ne-eqb}
-use Rattle.lines.specs.Reading.{nothing, word, separator, tab, lf, fieldIs, fieldFault, hasAt, markAt, wordAt, followedBy, numberAt, fieldAt, digestAt, lineIs, lineFault, lineAfter, noteLine, headerLine}
+use Rattle.lines.specs.Reading.{nothing, word, separator, tab, lf, goodField, fieldFault, hasAt, markAt, wordAt, followedBy, numberAt, fieldAt, digestAt, goodLine, lineFault, lineAfter, noteLine, headerLine}
 use Rattle.lines.specs.declared.Field.{Field}
 use Rattle.lines.specs.declared.DigestField.{DigestField}
 use Rattle.lines.specs.declared.NoteLine.{NoteLine}
@@ -36,7 +36,7 @@ module _ (text : List ℕ) (at ending : ℕ) (n : Field) (en : n ≡ numberAt te
   unfolding fieldAt
   field-open h missing = rw (← en) (sym (followed-good n _ h ∙ simp missing))
 
-  pub field-closed : n .wanted ≡ nothing → hasAt text (n .at) ending ≡ true → fieldIs (n .value) (n .at + 1) ≡ fieldAt text at ending
+  pub field-closed : n .wanted ≡ nothing → hasAt text (n .at) ending ≡ true → goodField (n .value) (n .at + 1) ≡ fieldAt text at ending
   unfolding fieldAt
   field-closed h there = rw (← en) (sym (followed-good n _ h ∙ simp there))
 
@@ -104,7 +104,7 @@ module _ (text : List ℕ) (at : ℕ) (note : Field) (en : note ≡ fieldAt text
                 rw (← en, ← eb, ← es, ← ee, ← ed, ← ec)
                 (sym (line-goes _ _ _ hn ∙ line-goes _ _ _ hb ∙ line-goes _ _ _ hs ∙ line-goes _ _ _ he ∙ line-goes _ _ _ hd ∙ line-stops _ _ _ h))
 
-            pub whole-line : close .wanted ≡ nothing → lineIs (record { note = note .value; sample = record { length = bytes .value; start = start .value; end = end .value; digest = digest .bytes } }) (close .at) ≡ noteLine text at
+            pub whole-line : close .wanted ≡ nothing → goodLine (record { note = note .value; sample = record { length = bytes .value; start = start .value; end = end .value; digest = digest .bytes } }) (close .at) ≡ noteLine text at
             unfolding noteLine
             whole-line h =
                 rw (← en, ← eb, ← es, ← ee, ← ed, ← ec)

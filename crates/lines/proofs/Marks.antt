@@ -8,7 +8,7 @@ use borrow.Author.Tests.{ltb-true, lt-ltb, le-ltb, eqb-true}
 use lib.Dec.{ltb, eqb}
 use lib.ListN.{length, getD, drop, drop-of-length-le}
 use lib.Seq.{drop-cons}
-use Rattle.lines.specs.Reading.{fieldIs, fieldFault, hasAt, markAt, wordAt}
+use Rattle.lines.specs.Reading.{goodField, fieldFault, hasAt, markAt, wordAt}
 use Rattle.same.proofs.Tests.{first, second}
 
 -- a byte that is there stands before the end, and the next place is a place
@@ -30,7 +30,7 @@ unfolding hasAt
 has-in text at byte h = simp (lt-ltb at (length text) h)
 
 -- a given byte is there, or it is wanted
-pub mark-there : (text : List ℕ) (at mark what : ℕ) → hasAt text at mark ≡ true → markAt text at mark what ≡ fieldIs 0 (at + 1)
+pub mark-there : (text : List ℕ) (at mark what : ℕ) → hasAt text at mark ≡ true → markAt text at mark what ≡ goodField 0 (at + 1)
 unfolding markAt
 mark-there text at mark what h = simp h
 
@@ -49,6 +49,6 @@ pub word-missing : (text letters : List ℕ) (at i what : ℕ) → i < length le
 unfolding wordAt
 word-missing text letters at i what h missing = rw (drop-cons letters i 0 h) (simp missing)
 
-pub word-done : (text letters : List ℕ) (at i what : ℕ) → length letters ≤ i → wordAt text at (drop i letters) what ≡ fieldIs 0 at
+pub word-done : (text letters : List ℕ) (at i what : ℕ) → length letters ≤ i → wordAt text at (drop i letters) what ≡ goodField 0 at
 unfolding wordAt
 word-done text letters at i what h = rw (drop-of-length-le letters h)

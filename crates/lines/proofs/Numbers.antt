@@ -9,7 +9,7 @@ use lib.Dec.{leb}
 use lib.ListN.{length, getD, drop, drop-of-length-le}
 use lib.Seq.{drop-cons}
 use Rattle.same.proofs.Tests.{first, second}
-use Rattle.lines.specs.Reading.{number, fieldIs, fieldFault, isFigure, withFigure, goesOn, figures, firstNumber, numberAt}
+use Rattle.lines.specs.Reading.{number, goodField, fieldFault, isFigure, withFigure, goesOn, figures, firstNumber, numberAt}
 
 -- a figure's code
 pub figure-from : (byte : ℕ) → isFigure byte ≡ true → 0x30 ≤ byte
@@ -71,10 +71,10 @@ unfolding figures withFigure
 figures-more text value at h goes = rw (drop-cons text at 0 h) (simp (goes, add-one at))
 
 pub figures-stop : (text : List ℕ) (value at : ℕ) → at < length text → goesOn value (getD text at 0) ≡ false
-    → figures value at (drop at text) ≡ fieldIs value at
+    → figures value at (drop at text) ≡ goodField value at
 unfolding figures
 figures-stop text value at h stops = rw (drop-cons text at 0 h) (simp stops)
 
-pub figures-end : (text : List ℕ) (value at : ℕ) → length text ≤ at → figures value at (drop at text) ≡ fieldIs value at
+pub figures-end : (text : List ℕ) (value at : ℕ) → length text ≤ at → figures value at (drop at text) ≡ goodField value at
 unfolding figures
 figures-end text value at h = rw (drop-of-length-le text h)

@@ -36,8 +36,8 @@ abbrev pub lf : ℕ
 lf = 10
 
 -- a field, and the place after it; or what was wanted, and where
-unfoldable pub fieldIs : ℕ → ℕ → Field
-fieldIs value next = record { wanted = nothing; at = next; value = value }
+unfoldable pub goodField : ℕ → ℕ → Field
+goodField value next = record { wanted = nothing; at = next; value = value }
 
 unfoldable pub fieldFault : ℕ → ℕ → Field
 fieldFault what place = record { wanted = what; at = place; value = 0 }
@@ -48,11 +48,11 @@ hasAt text at byte = ltb at (length text) && eqb (getD text at 0) byte
 
 -- one given byte
 unfoldable pub markAt : List ℕ → ℕ → ℕ → ℕ → Field
-markAt text at mark what = cond (hasAt text at mark) (fieldIs 0 (at + 1)) (fieldFault what at)
+markAt text at mark what = cond (hasAt text at mark) (goodField 0 (at + 1)) (fieldFault what at)
 
 -- given bytes, one after the other
 unfoldable pub wordAt : List ℕ → ℕ → List ℕ → ℕ → Field
-wordAt text at [] what = fieldIs 0 at
+wordAt text at [] what = goodField 0 at
 wordAt text at (letter ∷ letters) what = cond (hasAt text at letter) (wordAt text (at + 1) letters what) (fieldFault what at)
 
 -- what comes after a field, unless that has a fault
@@ -73,8 +73,8 @@ goesOn value byte = isFigure byte && leb 1 value && leb (withFigure value byte) 
 
 -- the rest of a number: as many figures as go on with it
 unfoldable pub figures : ℕ → ℕ → List ℕ → Field
-figures value at [] = fieldIs value at
-figures value at (byte ∷ rest) = cond (goesOn value byte) (figures (withFigure value byte) (at + 1) rest) (fieldIs value at)
+figures value at [] = goodField value at
+figures value at (byte ∷ rest) = cond (goesOn value byte) (figures (withFigure value byte) (at + 1) rest) (goodField value at)
 
 -- "Numbers are decimal": the number that stands first in the bytes from a place
 unfoldable pub firstNumber : ℕ → List ℕ → Field
@@ -88,11 +88,11 @@ numberAt text at = firstNumber at (drop at text)
 unfoldable pub fieldAt : List ℕ → ℕ → ℕ → Field
 fieldAt text at ending =
     let n = numberAt text at in
-    followedBy n (cond (hasAt text (n .at) ending) (fieldIs (n .value) (n .at + 1)) (fieldFault separator (n .at)))
+    followedBy n (cond (hasAt text (n .at) ending) (goodField (n .value) (n .at + 1)) (fieldFault separator (n .at)))
 
 -- a digest's bytes, and the place after its digits; or where a digit was wanted
-unfoldable pub digestIs : List ℕ → ℕ → DigestField
-digestIs bytes next = record { wanted = nothing; at = next; bytes = bytes }
+unfoldable pub goodDigest : List ℕ → ℕ → DigestField
+goodDigest bytes next = record { wanted = nothing; at = next; bytes = bytes }
 
 unfoldable pub digestFault : ℕ → DigestField
 digestFault place = record { wanted = digit; at = place; bytes = replicate 32 0 }
@@ -110,7 +110,7 @@ pairAt text at = digitAt text at * 16 + digitAt text (at + 1)
 
 -- n bytes more, each of two digits
 unfoldable pub digestFrom : ℕ → List ℕ → ℕ → List ℕ → DigestField
-digestFrom zero text at done = digestIs done at
+digestFrom zero text at done = goodDigest done at
 digestFrom (suc n) text at done =
     let rest = digestFrom n text (at + 2) (done ++ (pairAt text at ∷ [])) in
     cond (isDigitAt text at) (cond (isDigitAt text (at + 1)) rest (digestFault (at + 1))) (digestFault at)
@@ -123,8 +123,8 @@ digestAt text at = digestFrom 32 text at []
 unfoldable pub noEntry : Entry
 noEntry = record { note = 0; sample = zeroRecord }
 
-unfoldable pub lineIs : Entry → ℕ → NoteLine
-lineIs entry next = record { wanted = nothing; at = next; entry = entry }
+unfoldable pub goodLine : Entry → ℕ → NoteLine
+goodLine entry next = record { wanted = nothing; at = next; entry = entry }
 
 unfoldable pub lineFault : ℕ → ℕ → NoteLine
 lineFault what place = record { wanted = what; at = place; entry = noEntry }
@@ -150,7 +150,7 @@ noteLine text at =
     (lineAfter (bytes .wanted) (bytes .at)
     (lineAfter (start .wanted) (start .at)
     (lineAfter (end .wanted) (end .at)
-    (lineAfter (digest .wanted) (digest .at) (lineAfter (close .wanted) (close .at) (lineIs entry (close .at)))))))
+    (lineAfter (digest .wanted) (digest .at) (lineAfter (close .wanted) (close .at) (goodLine entry (close .at)))))))
 
 -- "`RANK`, `1`, and the number of notes"
 unfoldable pub headerLine : List ℕ → Field

@@ -1,7 +1,7 @@
 // The fields and lines of a rank sheet, read by place through the lent text.
 ghost use mathlib.Core.Path.{_≡_};
 ghost use Rattle.hex.specs.Digits.{digits};
-ghost use Rattle.lines.specs.Reading.{fieldIs, fieldFault, hasAt, markAt, wordAt, isFigure, goesOn, numberAt, fieldAt, digestFault, digitAt, digestAt, lineFault, noteLine, headerLine};
+ghost use Rattle.lines.specs.Reading.{goodField, fieldFault, hasAt, markAt, wordAt, isFigure, goesOn, numberAt, fieldAt, digestFault, digitAt, digestAt, lineFault, noteLine, headerLine};
 use rules::Record;
 
 // What a step read, and where it stopped: the next place where all was well, else the place at which it wanted something else.
@@ -53,8 +53,8 @@ const NINE: u8 = 57;
 // The edition of a sheet, a figure.
 const EDITION: u8 = 49;
 
-fn field_is(value: u32, next: usize) -> Field
-    ensures { λ r. ⌜ r ≡ fieldIs value next ⌝ }
+fn good_field(value: u32, next: usize) -> Field
+    ensures { λ r. ⌜ r ≡ goodField value next ⌝ }
 {
     Field {
         wanted: NOTHING,
@@ -89,7 +89,7 @@ fn mark_at(text: &[u8], at: usize, mark: u8, what: u8) -> Field
     ensures { λ r. ⌜ r ≡ markAt (now (text .entry)) at mark what ⌝ }
 {
     if has_at(text, at, mark) {
-        field_is(0, at + 1)
+        good_field(0, at + 1)
     } else {
         field_fault(what, at)
     }
@@ -108,7 +108,7 @@ fn word_at(text: &[u8], at: usize, letters: &[u8], what: u8) -> Field
         place += 1;
         i += 1;
     }
-    field_is(0, place)
+    good_field(0, place)
 }
 
 fn is_figure(byte: u8) -> bool
@@ -129,7 +129,7 @@ fn goes_on(value: u32, byte: u8) -> bool
 }
 
 // The number that begins at a place.
-pub fn number_at(text: &[u8], at: usize) -> Field
+fn number_at(text: &[u8], at: usize) -> Field
     ensures { λ r. ⌜ r ≡ numberAt (now (text .entry)) at ⌝ }
 {
     if text.len() <= at {
@@ -144,12 +144,12 @@ pub fn number_at(text: &[u8], at: usize) -> Field
     while place < text.len() {
         let byte = text[place];
         if !goes_on(value, byte) {
-            return field_is(value, place);
+            return good_field(value, place);
         }
         value = value * 10 + (byte - ZERO) as u32;
         place += 1;
     }
-    field_is(value, place)
+    good_field(value, place)
 }
 
 // A number and the byte that ends its field.
@@ -162,7 +162,7 @@ pub fn field_at(text: &[u8], at: usize, ending: u8) -> Field
     }
     let place = n.at;
     if has_at(text, place, ending) {
-        field_is(n.value, place + 1)
+        good_field(n.value, place + 1)
     } else {
         field_fault(SEPARATOR, place)
     }

@@ -139,5 +139,5 @@ demand3 =
           λ text es sheet e among.
           from-start (sheetOf text .session) (e .note) (e .sample) (line-record text es sheet e among) (listed-there text es sheet e among);
       others = λ text es sheet note none. unlisted-stays (sheetOf text .session) note (not-there text es sheet note none);
-      unlisted = unlisted-stays;
+      neverListed = unlisted-stays;
     }

@@ -17,7 +17,7 @@ use Rattle.rules.specs.declared.Record.{Record}
 use Rattle.session.specs.declared.Session.{Session}
 use Rattle.sheet.specs.Judging.{sheetOf}
 use Rattle.lines.specs.declared.Entry.{Entry}
-use Rattle.sheet_promises.specs.Grammar.{Obeys, AllObey, entry, IsSheet}
+use Rattle.sheet_promises.specs.Grammar.{ObeysRules, AllObey, entry, IsSheet}
 use Rattle.sheet_promises.specs.Promises.{Among, first, further}
 use Rattle.sheet_promises.proofs.Records.{rules-of, digest-of}
 use Rattle.sheet_promises.proofs.Kept.{kept}
@@ -34,7 +34,7 @@ pub record Lists (s : Session) (note : ℕ) (r : Record) : Type 0 where
   pub slot : slotOf s note ≡ waitingSlot r
 
 -- what each entry obeys, after the note before it
-obeyed : {last : ℕ} {es : List Entry} → AllObey last es → (e : Entry) → Among e es → (before : ℕ) × Obeys before e
+obeyed : {last : ℕ} {es : List Entry} → AllObey last es → (e : Entry) → Among e es → (before : ℕ) × ObeysRules before e
 obeyed {last} (entry o os) e first = (last, o)
 obeyed (entry o os) e (further a) = obeyed os e a
 

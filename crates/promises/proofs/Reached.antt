@@ -22,7 +22,7 @@ use Rattle.hash.proofs.Updating.{update-takes}
 use Rattle.hash.proofs.Cutting.{finish-fresh}
 use Rattle.hash.proofs.Comparing.{compared-same}
 use Rattle.rules.specs.Rules.{loopRule, obeys}
-use Rattle.session.specs.Slots.{absent, waiting, isDecided, stateInOrder, slotInOrder, takenOf, waitingSlot}
+use Rattle.session.specs.Slots.{absent, waiting, isDecided, stateInOrder, slotInOrder, bytesTaken, waitingSlot}
 use Rattle.session.specs.Deliver.{asItStands, decidedSlot, withPiece, deliverTo, askOf}
 use Rattle.rules.proofs.Rules.{length-rule-is}
 use Rattle.session.proofs.Deliver.{is-decided, runs-past as slot-runs-past, is-taken, waits-on, decides, asked as slot-asked}
@@ -167,11 +167,11 @@ module _ (r : Record) (line : LineRecord r) where
   -- status and taken as they stand, and asking, which gives the same
   module _ (b : List ℕ) (number : ℕ) where
     pub stands-waiting : length b < r .length → asItStands number (reached r b) ≡ record { no = number; status = waiting; taken = length b }
-    unfolding asItStands takenOf waitsWith
+    unfolding asItStands bytesTaken waitsWith
     stands-waiting h = rw (reached-waits b h, total-taken b)
 
     pub stands-decided : r .length ≤ length b → asItStands number (reached r b) ≡ record { no = number; status = decidedStatus r b; taken = r .length }
-    unfolding asItStands takenOf decidedBy
+    unfolding asItStands bytesTaken decidedBy
     stands-decided h = rw (reached-decided b h, status-not-waiting r b)
 
   in-order-reached : (b : List ℕ) (t : Bool) → ltb (length b) (r .length) ≡ t → slotInOrder (reached r b) ≡ true

@@ -22,7 +22,7 @@ after s (d ∷ ds) = after (deliver s (d .note) (d .piece) .session) ds
 unfoldable pub addedBytes : ℕ → Session → Delivery → List ℕ
 addedBytes note s d = cond (eqb (d .note) note && eqb (deliver s (d .note) (d .piece) .answer .no) accepted) (d .piece) []
 
--- "the bytes accepted for it", joined
+-- demand 3: "the bytes accepted for it", joined
 unfoldable pub acceptedBytes : ℕ → Session → List Delivery → List ℕ
 acceptedBytes note s [] = []
 acceptedBytes note s (d ∷ ds) = addedBytes note s d ++ acceptedBytes note (deliver s (d .note) (d .piece) .session) ds

@@ -22,19 +22,19 @@ use Rattle.sheet_promises.specs.Grammar.{IsSheet}
 use Rattle.sheet_promises.specs.Promises.{Among}
 use Rattle.promises.specs.Deliveries.{Delivery, after, acceptedBytes}
 
--- "open if the accepted bytes' SM3 digest is the sheet's and shut if not"
+-- demand 3: "open if the accepted bytes' SM3 digest is the sheet's and shut if not"
 unfoldable pub decidedStatus : Record → List ℕ → ℕ
 decidedStatus r bytes = cond (same (sm3 bytes) (r .digest)) opened shut
 
 -- what is promised of a listed note with record r in the session s, `bytes` being the bytes accepted for it
 pub record Promised (s : Session) (note : ℕ) (r : Record) (bytes : List ℕ) : Type 0 where
-  -- "Bytes past the length are never part of a sample"
+  -- document 01: "Bytes past the length are never part of a sample"
   pub within : length bytes ≤ r .length
   -- "a listed note waits while the bytes accepted for it are fewer than its length"
   pub waits : length bytes < r .length → ask s note ≡ record { no = accepted; status = waiting; taken = length bytes }
   -- "and a waiting note's piece is accepted exactly when it doesn't run past that length";
   pub accepts : length bytes < r .length → (piece : List ℕ) → (deliver s note piece .answer .no ≡ accepted) ↔ (length bytes + length piece ≤ r .length)
-  -- its answer is then what asking gives; a piece that does run past is refused (8), "as they stood; nothing of the piece taken"
+  -- its answer is then what asking gives; a piece that does run past is refused (8), as the table says: "as they stood; nothing of the piece taken"
   pub answers : length bytes < r .length → (piece : List ℕ) → length bytes + length piece ≤ r .length
       → deliver s note piece .answer ≡ ask (deliver s note piece .session) note
   pub refuses : length bytes < r .length → (piece : List ℕ) → r .length < length bytes + length piece
@@ -43,7 +43,7 @@ pub record Promised (s : Session) (note : ℕ) (r : Record) (bytes : List ℕ) :
   pub decides : length bytes ≡ r .length → ask s note ≡ record { no = accepted; status = decidedStatus r bytes; taken = length bytes }
   pub opens : length bytes ≡ r .length → (ask s note .status ≡ opened) ↔ (sm3 bytes ≡ r .digest)
   pub shuts : length bytes ≡ r .length → (ask s note .status ≡ shut) ↔ (sm3 bytes ≡ r .digest → ⊥)
-  -- it keeps "its own line's record", whatever was delivered; "A decided slot holds a fresh state"
+  -- document 01: it keeps "its own line's record", whatever was delivered; "A decided slot holds a fresh state"
   pub keeps : slotOf s note .sample ≡ r
   pub leaves : length bytes ≡ r .length → slotOf s note .state ≡ fresh
   -- "and it stays so": whatever is delivered later; its own deliveries are refused (7), the empty piece too
@@ -65,4 +65,4 @@ pub record Demand3 : Type 0 where
   pub others : (text : List ℕ) (es : List Entry) → IsSheet text es → (note : ℕ) → ((e : Entry) → Among e es → e .note ≡ note → ⊥) → (ds : List Delivery)
       → NotListed (after (sheetOf text .session) ds) note
   -- from any session at all, a note that is not listed never is
-  pub unlisted : (s : Session) (note : ℕ) → Unlisted s note → (ds : List Delivery) → NotListed (after s ds) note
+  pub neverListed : (s : Session) (note : ℕ) → Unlisted s note → (ds : List Delivery) → NotListed (after s ds) note

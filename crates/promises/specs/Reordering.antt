@@ -5,7 +5,7 @@ use Prim.Native.Nat.{ℕ}
 use Rattle.session.specs.declared.Session.{Session}
 use Rattle.promises.specs.Deliveries.{Delivery, after, ownDeliveries, ownAnswers}
 
--- "Reordering deliveries of different notes, each note's own kept in order": two lists of deliveries with the same own deliveries, note by note
+-- demand 3: "Reordering deliveries of different notes, each note's own kept in order": two lists of deliveries with the same own deliveries, note by note
 abbrev pub Reordered : List Delivery → List Delivery → Type 0
 Reordered ds ds′ = (note : ℕ) → ownDeliveries note ds ≡ ownDeliveries note ds′
 

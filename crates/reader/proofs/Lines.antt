@@ -9,13 +9,13 @@ use lib.Dec.{eqb}
 use lib.ListN.{length}
 use Rattle.refusal.specs.Table.{accepted, form}
 use Rattle.lines.specs.Reading.{noteLine, headerLine}
-use Rattle.sheet.specs.Judging.{headerNumber, noteNumber, badLine, allGood, judgedNotes, judged}
+use Rattle.sheet.specs.Judging.{headerNumber, noteNumber, verdictAt, allGood, judgedNotes, judged}
 use Rattle.lines.specs.declared.Field.{Field}
 use Rattle.lines.specs.declared.NoteLine.{NoteLine}
 use Rattle.sheet.specs.declared.Verdict.{Verdict}
 use Rattle.sheet.proofs.Verdicts.{most-notes}
-use Rattle.reader.specs.Judging.{bad, afterHeader, afterLine, atEnd}
-use Rattle.reader.specs.declared.Judging.{Judging}
+use Rattle.reader.specs.Progress.{bad, afterHeader, afterLine, atEnd}
+use Rattle.reader.specs.declared.Progress.{Progress}
 
 -- the header, by cases
 module _ (h : Field) (number : ℕ) (e : number ≡ headerNumber h) where
@@ -28,7 +28,7 @@ module _ (h : Field) (number : ℕ) (e : number ≡ headerNumber h) where
   header-bad ill = rw (← e) (simp (ne-eqb number accepted ill))
 
 -- a note line, by cases
-module _ (j : Judging) (l : NoteLine) (number : ℕ) (e : number ≡ noteNumber (j .last) l) where
+module _ (j : Progress) (l : NoteLine) (number : ℕ) (e : number ≡ noteNumber (j .last) l) where
   pub line-good : number ≡ accepted → record { no = accepted; last = l .entry .note; left = j .left - 1; line = j .line + 1 } ≡ afterLine j l
   unfolding afterLine
   line-good good = rw (← e) (simp (eq-eqb number accepted good))
@@ -38,13 +38,13 @@ module _ (j : Judging) (l : NoteLine) (number : ℕ) (e : number ≡ noteNumber 
   line-bad ill = rw (← e) (simp (ne-eqb number accepted ill))
 
 -- the end, by cases
-module _ (j : Judging) (at end : ℕ) where
+module _ (j : Progress) (at end : ℕ) where
   pub ends-bad : (j .no ≡ accepted → ⊥) → record { no = j .no; line = j .line } ≡ atEnd j at end
-  unfolding atEnd badLine
+  unfolding atEnd verdictAt
   ends-bad ill = simp (ne-eqb (j .no) accepted ill)
 
   pub ends-early : j .no ≡ accepted → at < end → record { no = form; line = j .line } ≡ atEnd j at end
-  unfolding atEnd badLine
+  unfolding atEnd verdictAt
   ends-early good l = simp (eq-eqb (j .no) accepted good, lt-ltb at end l)
 
   pub ends-well : j .no ≡ accepted → end ≤ at → record { no = accepted; line = 0 } ≡ atEnd j at end
@@ -52,11 +52,11 @@ module _ (j : Judging) (at end : ℕ) where
   ends-well good l = simp (eq-eqb (j .no) accepted good, le-ltb at end l)
 
 -- the verdict that is still to come, from a place
-unfoldable pub toCome : List ℕ → ℕ → Judging → Verdict
-toCome text at j = cond (eqb (j .no) accepted) (judgedNotes (j .left) text at (j .line) (j .last)) (badLine (j .no) (j .line))
+unfoldable pub toCome : List ℕ → ℕ → Progress → Verdict
+toCome text at j = cond (eqb (j .no) accepted) (judgedNotes (j .left) text at (j .line) (j .last)) (verdictAt (j .no) (j .line))
 
 -- a line is bad where no line is left, and no line's number runs over
-abbrev pub Sound : Judging → Type 0
+abbrev pub Sound : Progress → Type 0
 Sound j = (1 ≤ j .left → j .no ≡ accepted) × (j .line + j .left < 2 ^ 32)
 
 module _ (text : List ℕ) where
@@ -73,20 +73,20 @@ module _ (text : List ℕ) where
   unfolding judgedNotes
   step-good n at line last e = simp e
 
-  step-bad : (n at line last : ℕ) → eqb (noteNumber last (noteLine text at)) accepted ≡ false → judgedNotes (suc n) text at line last ≡ badLine (noteNumber last (noteLine text at)) line
+  step-bad : (n at line last : ℕ) → eqb (noteNumber last (noteLine text at)) accepted ≡ false → judgedNotes (suc n) text at line last ≡ verdictAt (noteNumber last (noteLine text at)) line
   unfolding judgedNotes
   step-bad n at line last e = simp e
 
   -- what is to come, by cases
-  comes-good : (at : ℕ) (j : Judging) → j .no ≡ accepted → toCome text at j ≡ judgedNotes (j .left) text at (j .line) (j .last)
+  comes-good : (at : ℕ) (j : Progress) → j .no ≡ accepted → toCome text at j ≡ judgedNotes (j .left) text at (j .line) (j .last)
   unfolding toCome
   comes-good at j good = simp (eq-eqb (j .no) accepted good)
 
-  comes-bad : (at : ℕ) (j : Judging) → (j .no ≡ accepted → ⊥) → toCome text at j ≡ badLine (j .no) (j .line)
+  comes-bad : (at : ℕ) (j : Progress) → (j .no ≡ accepted → ⊥) → toCome text at j ≡ verdictAt (j .no) (j .line)
   unfolding toCome
   comes-bad at j ill = simp (ne-eqb (j .no) accepted ill)
 
-  pub after-line : (at : ℕ) (j : Judging) → 1 ≤ j .left → j .no ≡ accepted → toCome text (noteLine text at .at) (afterLine j (noteLine text at)) ≡ toCome text at j
+  pub after-line : (at : ℕ) (j : Progress) → 1 ≤ j .left → j .no ≡ accepted → toCome text (noteLine text at .at) (afterLine j (noteLine text at)) ≡ toCome text at j
   after-line at j more good = go (eqb (noteNumber (j .last) (noteLine text at)) accepted) refl
     where
       l : NoteLine
@@ -103,7 +103,7 @@ module _ (text : List ℕ) where
           ap (toCome text (l .at)) (sym (line-bad j l (noteNumber (j .last) l) refl (eqb-false _ _ e))) ∙ comes-bad (l .at) _ (eqb-false _ _ e)
           ∙ sym (before ∙ step-bad (j .left - 1) at (j .line) (j .last) e)
 
-  pub at-end : (at : ℕ) (j : Judging) → j .left ≡ 0 → toCome text at j ≡ atEnd j at (length text)
+  pub at-end : (at : ℕ) (j : Progress) → j .left ≡ 0 → toCome text at j ≡ atEnd j at (length text)
   unfolding toCome atEnd judgedNotes
   at-end at j none = rw none
 
@@ -115,7 +115,7 @@ header-sound h = go (eqb (headerNumber h) accepted) refl
     go true e = let few = most-notes h (headerNumber h) refl (eqb-true _ _ e) in rw e (λ _. refl, omega arith)
     go false e = rw e (λ more. absurd (omega arith), omega arith)
 
-module _ (j : Judging) (l : NoteLine) (more : 1 ≤ j .left) (sound : Sound j) where
+module _ (j : Progress) (l : NoteLine) (more : 1 ≤ j .left) (sound : Sound j) where
   pub line-sound : Sound (afterLine j l)
   unfolding afterLine bad
   line-sound = go (eqb (noteNumber (j .last) l) accepted) refl

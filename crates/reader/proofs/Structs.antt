@@ -10,8 +10,8 @@ use Rattle.lines.proofs.Field as F
 use Rattle.lines.proofs.Field.Laws as F′
 use Rattle.lines.proofs.DigestField as D
 use Rattle.lines.proofs.DigestField.Laws as D′
-use Rattle.reader.proofs.Judging as J
-use Rattle.reader.proofs.Judging.Laws as J′
+use Rattle.reader.proofs.Progress as J
+use Rattle.reader.proofs.Progress.Laws as J′
 use Rattle.lines.specs.declared.NoteLine.{NoteLine}
 use Rattle.lines.specs.declared.Field.{Field}
 use Rattle.lines.specs.declared.DigestField.{DigestField}

@@ -1,2 +1,2 @@
 pub mod Reader
-pub mod Judging
+pub mod Progress

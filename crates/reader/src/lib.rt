@@ -3,7 +3,7 @@ ghost use mathlib.Core.Path.{_≡_};
 ghost use Rattle.reader.specs.Reader.{beginOf, headerRead, numberRead, digestRead, lineRead};
 ghost use Prim.Native.Nat.{_+_, _<_, _≤_, _^_};
 ghost use Rattle.sheet.specs.Judging.{judged};
-ghost use Rattle.reader.specs.Judging.{afterHeader, afterLine, atEnd};
+ghost use Rattle.reader.specs.Progress.{afterHeader, afterLine, atEnd};
 use lines::DigestField;
 use lines::Field;
 use lines::NoteLine;
@@ -96,26 +96,26 @@ pub fn next_line<'a>(r: SheetReader<'a>) -> LineRead<'a>
 }
 
 // How far a sheet is judged: a bad line's refusal number, 0 so far; the note of the line before; how many note lines are left; and the line's number.
-pub struct Judging {
+pub struct Progress {
     pub no: u8,
     pub last: u32,
     pub left: u32,
     pub line: u32,
 }
 
-fn after_header(h: Field) -> Judging
+fn after_header(h: Field) -> Progress
     ensures { λ j. ⌜ j ≡ afterHeader h ⌝ }
 {
     let no = sheet::header_number(h);
     if no == ACCEPTED {
-        Judging {
+        Progress {
             no: ACCEPTED,
             last: 0,
             left: h.value,
             line: 2,
         }
     } else {
-        Judging {
+        Progress {
             no,
             last: 0,
             left: 0,
@@ -124,21 +124,21 @@ fn after_header(h: Field) -> Judging
     }
 }
 
-fn after_line(j: Judging, l: NoteLine) -> Judging
+fn after_line(j: Progress, l: NoteLine) -> Progress
     requires { ⌜ (1 ≤ j .left) × (j .line + 1 < 2 ^ 32) ⌝ }
     ensures { λ k. ⌜ k ≡ afterLine j l ⌝ }
 {
     let no = sheet::note_number(j.last, l);
     if no == ACCEPTED {
         let e = l.entry;
-        Judging {
+        Progress {
             no: ACCEPTED,
             last: e.note,
             left: j.left - 1,
             line: j.line + 1,
         }
     } else {
-        Judging {
+        Progress {
             no,
             last: j.last,
             left: 0,
@@ -147,7 +147,7 @@ fn after_line(j: Judging, l: NoteLine) -> Judging
     }
 }
 
-fn at_end(j: Judging, at: usize, length: usize) -> Verdict
+fn at_end(j: Progress, at: usize, length: usize) -> Verdict
     ensures { λ v. ⌜ v ≡ atEnd j at length ⌝ }
 {
     if j.no != ACCEPTED {

@@ -9,11 +9,11 @@ use Rattle.rules.specs.declared.Record.{Record}
 unfoldable pub countRule : ℕ → Bool
 countRule count = leb 1 count && leb count 32
 
--- "Notes are 1..32,
+-- "Notes are 1..32, rising strictly": the first half
 unfoldable pub isNote : ℕ → Bool
 isNote note = leb 1 note && leb note 32
 
--- rising strictly": above the note of the line before, or above 0
+-- both halves: above the note of the line before, or above 0
 unfoldable pub noteRule : ℕ → ℕ → Bool
 noteRule last note = isNote note && ltb last note
 

@@ -1,5 +1,5 @@
 -- Operations on different notes. Assumes nothing.
-use Prim.Native.Nat.{ℕ}
+use Prim.Native.Nat.{ℕ, _≤_}
 use mathlib.Core.Path.{_≡_, refl, sym, ap, _∙_}
 use mathlib.Core.Bool.{Bool, true, false}
 use native.Mathlib.Omega.{arith}
@@ -24,6 +24,11 @@ places-differ m n ne p q e =
     let place′ = place-of-note n q in
     ne (omega arith)
 
+-- an operation answers by its own slot
+pub own-slot : (s t : Session) (note : ℕ) (f : Slot → Step) → slotOf s note ≡ slotOf t note → onNote s note f .answer ≡ onNote t note f .answer
+unfolding onNote
+own-slot s t note f e = rw e
+
 module _ (s : Session) (m n : ℕ) (f : Slot → Step) (ne : m ≡ n → ⊥) where
   -- a slot of another note is as it was, and as listed as it was
   other-slot : (l : Bool) → isListed (slotOf s m) m ≡ l → isNote n ≡ true → slotOf (onNote s m f .session) n ≡ slotOf s n
@@ -34,6 +39,9 @@ module _ (s : Session) (m n : ℕ) (f : Slot → Step) (ne : m ≡ n → ⊥) wh
 
   pub other-kept : isNote n ≡ true → slotOf (onNote s m f .session) n ≡ slotOf s n
   other-kept = other-slot _ refl
+
+  pub other-slots : 1 ≤ n → n ≤ 32 → slotOf (onNote s m f .session) n ≡ slotOf s n
+  other-slots low high = other-kept (is-note-is n .1 (low, high))
 
   listed-kept : (b : Bool) → isNote n ≡ b → isListed (slotOf (onNote s m f .session) n) n ≡ isListed (slotOf s n) n
   listed-kept true h = rw (other-kept h)

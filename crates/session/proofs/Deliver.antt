@@ -8,12 +8,12 @@ use lib.ListN.{length}
 use Rattle.refusal.specs.Table.{accepted, slot-not-in-order, decided, past-length}
 use Rattle.hash.specs.Update.{update}
 use Rattle.hash.specs.declared.Updated.{Updated}
-use Rattle.session.specs.Slots.{waiting, slotInOrder, takenOf}
+use Rattle.session.specs.Slots.{waiting, slotInOrder, bytesTaken}
 use Rattle.session.specs.Deliver.{bareRefusal, asItStands, decidedSlot, withPiece, deliverTo, askOf}
 use Rattle.session.specs.declared.Slot.{Slot}
 
 -- an answer as a slot stands
-pub stands : (number t : ℕ) (s : Slot) → t ≡ takenOf s → record { no = number; status = s .status; taken = t } ≡ asItStands number s
+pub stands : (number t : ℕ) (s : Slot) → t ≡ bytesTaken s → record { no = number; status = s .status; taken = t } ≡ asItStands number s
 unfolding asItStands
 stands number t s h = rw h
 

@@ -1,10 +1,10 @@
 pub mod Slots
 pub mod Deliver
+pub mod Records
 pub mod Pieces
 pub mod Lists
 pub mod Places
 pub mod Listed
 pub mod Rows
 pub mod Apart
-pub mod Records
 pub mod Kept

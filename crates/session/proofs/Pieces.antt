@@ -10,7 +10,7 @@ use lib.Dec.{ltb}
 use lib.ListN.{length}
 use Rattle.refusal.specs.Table.{accepted}
 use Rattle.same.proofs.Tests.{first, never}
-use Rattle.hash.specs.State.{inOrder}
+use Rattle.hash.specs.State.{fresh, inOrder}
 use Rattle.hash.specs.Update.{taken, update}
 use Rattle.hash.specs.Digests.{finish, compareState}
 use Rattle.hash.specs.declared.Hash.{Hash}
@@ -18,16 +18,18 @@ use Rattle.hash.proofs.Taking.{taken-nil, inOrder-taken}
 use Rattle.hash.proofs.Kept.{kept}
 use Rattle.hash.proofs.Updating.{update-takes}
 use Rattle.rules.specs.Rules.{lengthRule, obeys}
-use Rattle.session.specs.Slots.{waiting, opened, shut, slotInOrder, takenOf}
+use Rattle.session.specs.Slots.{waiting, opened, shut, slotInOrder, bytesTaken}
 use Rattle.session.specs.Deliver.{decidedSlot, withPiece}
+use Rattle.session.specs.Promises.{Outcome}
 use Rattle.session.specs.declared.Slot.{Slot}
+use Rattle.session.proofs.Records.{piece-kept}
 use Rattle.rules.proofs.Rules.{length-rule-is}
 use Rattle.session.proofs.Slots.{slot-in-order-is, when-waiting, taken-waiting, has-room}
 use Rattle.session.proofs.Deliver.{waits-on, decides}
 
 -- a decided slot has taken its length
-decided-taken : (s : Slot) (h : Hash) (b : Bool) → compareState h (s .sample .digest) .same ≡ b → takenOf (decidedSlot s h) ≡ s .sample .length
-unfolding decidedSlot takenOf
+decided-taken : (s : Slot) (h : Hash) (b : Bool) → compareState h (s .sample .digest) .same ≡ b → bytesTaken (decidedSlot s h) ≡ s .sample .length
+unfolding decidedSlot bytesTaken
 decided-taken s h true e = rw e
 decided-taken s h false e = rw e
 
@@ -48,36 +50,44 @@ module _ (s : Slot) (o : slotInOrder s ≡ true) (w : s .status ≡ waiting) whe
   unfolding obeys
   length-fits = length-rule-is _ .0 (first (lengthRule (s .sample .length)) _ (slot-in-order-is s .0 o .0)) .2
 
-  module _ (piece : List ℕ) (fits : takenOf s + length piece ≤ s .sample .length) where
+  module _ (piece : List ℕ) (fits : bytesTaken s + length piece ≤ s .sample .length) where
     abbrev h : Hash
     h = taken (s .state) piece
 
     pub takes : update (s .state) piece ≡ record { no = accepted; state = h }
     takes = update-takes (s .state) piece state-in-order (let t = taken-waiting s w in let l = length-fits in omega arith)
 
-    total-after : h .total ≡ takenOf s + length piece
+    total-after : h .total ≡ bytesTaken s + length piece
     unfolding taken
     total-after = rw (taken-waiting s w)
 
-    counts : (b : Bool) → ltb (h .total) (s .sample .length) ≡ b → takenOf (withPiece s piece) ≡ takenOf s + length piece
-    unfolding takenOf
-    counts true e = ap takenOf (waits-on s piece _ (sym takes) (ltb-true _ _ e)) ∙ total-after
+    counts : (b : Bool) → ltb (h .total) (s .sample .length) ≡ b → bytesTaken (withPiece s piece) ≡ bytesTaken s + length piece
+    unfolding bytesTaken
+    counts true e = ap bytesTaken (waits-on s piece _ (sym takes) (ltb-true _ _ e)) ∙ total-after
     counts false e =
         let k = ltb-false _ _ e in
         let t = total-after in
-        ap takenOf (decides s piece _ (sym takes) k) ∙ decided-taken s h _ refl ∙ omega arith
+        ap bytesTaken (decides s piece _ (sym takes) k) ∙ decided-taken s h _ refl ∙ omega arith
 
-    pub counted : takenOf (withPiece s piece) ≡ takenOf s + length piece
+    pub counted : bytesTaken (withPiece s piece) ≡ bytesTaken s + length piece
     counted = counts _ refl
 
-    -- the status that it leaves
-    pub waits : takenOf s + length piece < s .sample .length → withPiece s piece .status ≡ waiting
-    waits below = ap (λ (x : Slot). x .status) (waits-on s piece _ (sym takes) (rw total-after below))
+    waits : bytesTaken s + length piece < s .sample .length → (withPiece s piece .status ≡ waiting) × (withPiece s piece .state ≡ h)
+    waits below =
+        let after = waits-on s piece _ (sym takes) (rw total-after below) in
+        (ap (λ (x : Slot). x .status) after, ap (λ (x : Slot). x .state) after)
 
-    module _ (full : takenOf s + length piece ≡ s .sample .length) where
+    module _ (full : bytesTaken s + length piece ≡ s .sample .length) where
+      after : withPiece s piece ≡ decidedSlot s h
+      after = decides s piece _ (sym takes) (let t = total-after in omega arith)
+
+      leaves : withPiece s piece .state ≡ fresh
+      unfolding decidedSlot
+      leaves = ap (λ (x : Slot). x .state) after
+
       status-is : withPiece s piece .status ≡ cond (compareState h (s .sample .digest) .same) opened shut
       unfolding decidedSlot
-      status-is = ap (λ (x : Slot). x .status) (decides s piece _ (sym takes) (let t = total-after in omega arith))
+      status-is = ap (λ (x : Slot). x .status) after
 
       fits-is : (compareState h (s .sample .digest) .same ≡ true) ↔ (s .sample .digest ≡ finish h .bytes)
       fits-is =
@@ -85,11 +95,14 @@ module _ (s : Slot) (o : slotInOrder s ≡ true) (w : s .status ≡ waiting) whe
           let ordered : inOrder h ≡ true = inOrder-taken (s .state) state-in-order piece (let t = taken-waiting s w in let l = length-fits in omega arith) in
           (λ e. compared .0 e .1, λ e. compared .1 (ordered, e))
 
-      pub opens : (withPiece s piece .status ≡ opened) ↔ (s .sample .digest ≡ finish h .bytes)
+      opens : (withPiece s piece .status ≡ opened) ↔ (s .sample .digest ≡ finish h .bytes)
       opens = (λ e. fits-is .0 (is-opened _ (sym status-is ∙ e)), λ e. status-is ∙ rw (fits-is .1 e))
 
-      pub shuts : (withPiece s piece .status ≡ shut) ↔ (s .sample .digest ≡ finish h .bytes → ⊥)
+      shuts : (withPiece s piece .status ≡ shut) ↔ (s .sample .digest ≡ finish h .bytes → ⊥)
       shuts = (λ e f. is-shut _ (sym status-is ∙ e) (fits-is .1 f), λ e. status-is ∙ rw (never _ (λ f. e (fits-is .0 f))))
+
+    pub outcome-is : Outcome s piece (withPiece s piece)
+    outcome-is = record { keeps = piece-kept s piece; waits = waits; leaves = leaves; opens = opens; shuts = shuts }
 
   pub empty-piece : withPiece s [] ≡ s
   empty-piece =

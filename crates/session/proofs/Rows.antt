@@ -1,6 +1,6 @@
 -- A delivery, and asking, by the rows of the table. Assumes nothing.
 use Prim.Native.Nat.{ℕ, _+_, _-_, _≤_, _<_}
-use mathlib.Core.Path.{_≡_, refl, sym, ap, _∙_, subst}
+use mathlib.Core.Path.{_≡_, refl, sym, _∙_, subst}
 use mathlib.Core.Logic.{_↔_, Iff·symm}
 use mathlib.Core.List.{List, []}
 use mathlib.Core.Bool.{Bool, true, false}
@@ -10,16 +10,16 @@ use borrow.Author.Tests.{eqb-true, eqb-false, leb-true, leb-false}
 use lib.Dec.{eqb, leb}
 use lib.ListN.{length}
 use Rattle.refusal.specs.Table.{accepted}
-use Rattle.session.specs.Slots.{waiting, slotInOrder, takenOf}
-use Rattle.session.specs.Deliver.{bareRefusal, asItStands, withPiece, deliverTo, slotOf, isListed, deliver, ask}
-use Rattle.session.specs.Promises.{Row, row5, row6, row7, row8, row0, AskRow, ask5, ask6, ask0, Listed, Outcome}
+use Rattle.session.specs.Slots.{waiting, slotInOrder, bytesTaken}
+use Rattle.session.specs.Deliver.{bareRefusal, asItStands, deliverTo, slotOf, isListed, deliver, ask}
+use Rattle.session.specs.Promises.{Row, row5, row6, row7, row8, row0, AskRow, ask5, ask6, ask0, Listed}
 use Rattle.session.specs.declared.Slot.{Slot}
 use Rattle.session.specs.declared.Session.{Session}
 use Rattle.session.specs.declared.Answer.{Answer}
 use Rattle.session.specs.declared.Delivered.{Delivered}
 use Rattle.session.proofs.Slots.{not-waiting, has-room, else-decided, taken-waiting}
 use Rattle.session.proofs.Deliver.{not-in-order, is-decided, runs-past, is-taken, asked, asked-not-in-order}
-use Rattle.session.proofs.Pieces.{counted, waits, opens, shuts, empty-piece}
+use Rattle.session.proofs.Pieces.{counted, empty-piece}
 use Rattle.session.proofs.Places.{place-of-note, unchanged, on-listed, on-unlisted, ask-at-listed, ask-at-unlisted}
 use Rattle.session.proofs.Listed.{listed-note, listed-is, unlisted-is}
 
@@ -38,7 +38,7 @@ module _ (s : Session) (note : ℕ) (piece : List ℕ) where
 
   -- "taken + piece exceeds length", and the room that the piece is held against
   room-is : slotInOrder slot ≡ true → slot .status ≡ waiting
-      → (takenOf slot + length piece ≤ slot .sample .length) ↔ (length piece ≤ slot .sample .length - slot .state .total)
+      → (bytesTaken slot + length piece ≤ slot .sample .length) ↔ (length piece ≤ slot .sample .length - slot .state .total)
   room-is o w =
       let t = taken-waiting slot w in
       let r = has-room slot o w in
@@ -84,7 +84,7 @@ module _ (s : Session) (note : ℕ) (piece : List ℕ) where
   refused-leaves n = leaves (row-of refl) n
 
   -- a row that accepts counts the piece
-  counts : {d : Delivered} → Row s note piece d → d .answer .no ≡ accepted → d .answer .taken ≡ takenOf slot + length piece
+  counts : {d : Delivered} → Row s note piece d → d .answer .no ≡ accepted → d .answer .taken ≡ bytesTaken slot + length piece
   unfolding bareRefusal asItStands
   counts (row5 u) n = absurd (omega arith)
   counts (row6 l o) n = absurd (omega arith)
@@ -92,22 +92,8 @@ module _ (s : Session) (note : ℕ) (piece : List ℕ) where
   counts (row8 l o w e) n = absurd (omega arith)
   counts (row0 l o w e) n = counted slot o w piece e
 
-  pub accepted-counts : deliver s note piece .answer .no ≡ accepted → deliver s note piece .answer .taken ≡ takenOf slot + length piece
+  pub accepted-counts : deliver s note piece .answer .no ≡ accepted → deliver s note piece .answer .taken ≡ bytesTaken slot + length piece
   accepted-counts n = counts (row-of refl) n
-
--- what a piece that fits makes of a waiting note
-module _ (s : Session) (note : ℕ) (piece : List ℕ) (l : Listed s note) (o : slotInOrder (slotOf s note) ≡ true) (w : slotOf s note .status ≡ waiting) where
-  becomes : takenOf (slotOf s note) + length piece ≤ slotOf s note .sample .length → deliver s note piece .answer .status ≡ withPiece (slotOf s note) piece .status
-  unfolding asItStands
-  becomes fits = sym (ap (λ (d : Delivered). d .answer .status) (holds s note piece (row0 l o w fits)))
-
-  pub outcome-is : Outcome (slotOf s note) piece (deliver s note piece .answer .status)
-  outcome-is =
-      record {
-        waits = λ below. becomes (omega arith) ∙ waits (slotOf s note) o w piece (omega arith) below;
-        opens = λ full. rw (becomes (omega arith)) (opens (slotOf s note) o w piece (omega arith) full);
-        shuts = λ full. rw (becomes (omega arith)) (shuts (slotOf s note) o w piece (omega arith) full);
-      }
 
 -- an empty piece
 pub empty-leaves : (s : Session) (note : ℕ) → Listed s note → slotInOrder (slotOf s note) ≡ true → slotOf s note .status ≡ waiting

@@ -10,7 +10,7 @@ use Rattle.same.proofs.Tests.{first, second, both}
 use Rattle.hash.specs.State.{inOrder}
 use Rattle.hash.proofs.State.{isFresh-fresh, fresh-only}
 use Rattle.rules.specs.Rules.{obeys}
-use Rattle.session.specs.Slots.{waiting, opened, shut, isDecided, stateInOrder, slotInOrder, takenOf}
+use Rattle.session.specs.Slots.{waiting, opened, shut, isDecided, stateInOrder, slotInOrder, bytesTaken}
 use Rattle.session.specs.Promises.{Decided, StateInOrder}
 use Rattle.session.specs.declared.Slot.{Slot}
 
@@ -71,6 +71,6 @@ module _ (s : Slot) where
       other (inr p) = p .0
 
   -- a waiting slot has taken what is in its hash state
-  pub taken-waiting : s .status ≡ waiting → takenOf s ≡ s .state .total
-  unfolding takenOf
+  pub taken-waiting : s .status ≡ waiting → bytesTaken s ≡ s .state .total
+  unfolding bytesTaken
   taken-waiting w = simp (eq-eqb _ _ w)

@@ -10,7 +10,7 @@ use Rattle.hash.specs.Update.{update}
 use Rattle.hash.specs.Digests.{compareState}
 use Rattle.hash.specs.declared.Hash.{Hash}
 use Rattle.rules.specs.Rules.{isNote}
-use Rattle.session.specs.Slots.{absent, waiting, opened, shut, slotInOrder, takenOf, emptySlot}
+use Rattle.session.specs.Slots.{absent, waiting, opened, shut, slotInOrder, bytesTaken, emptySlot}
 use Rattle.session.specs.declared.Slot.{Slot}
 use Rattle.session.specs.declared.Session.{Session}
 use Rattle.session.specs.declared.Answer.{Answer}
@@ -23,9 +23,9 @@ bareRefusal number = record { no = number; status = absent; taken = 0 }
 
 -- "status and taken as they stood"
 unfoldable pub asItStands : ℕ → Slot → Answer
-asItStands number s = record { no = number; status = s .status; taken = takenOf s }
+asItStands number s = record { no = number; status = s .status; taken = bytesTaken s }
 
--- there: "open if the accepted bytes' SM3 digest is the sheet's and shut if not"; "A decided slot holds a fresh state"
+-- demand 3: "there the note is open if the accepted bytes' SM3 digest is the sheet's and shut if not"; "A decided slot holds a fresh state"
 unfoldable pub decidedSlot : Slot → Hash → Slot
 decidedSlot s h = record { sample = s .sample; state = fresh; status = cond (compareState h (s .sample .digest) .same) opened shut }
 
@@ -64,7 +64,7 @@ deliverAt s note piece = onSlot s note (λ slot. deliverTo slot piece)
 unfoldable pub askAt : Slot → ℕ → Answer
 askAt s note = cond (isListed s note) (askOf s) (bareRefusal unlisted)
 
--- "32 slots, one a note": the first is note 1's. A number that is no note has the first place, and refusal 5 leaves that slot as it was
+-- "32 slots, one a note": the first is note 1's. A number that is no note is given the first place too, where refusal 5 leaves the slot as it was
 unfoldable pub placeOf : ℕ → ℕ
 placeOf note = cond (isNote note) (note - 1) 0
 

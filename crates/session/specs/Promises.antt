@@ -10,8 +10,8 @@ use Rattle.hash.specs.State.{fresh, inOrder}
 use Rattle.hash.specs.Update.{taken}
 use Rattle.hash.specs.Digests.{finish}
 use Rattle.rules.specs.Rules.{obeys}
-use Rattle.session.specs.Slots.{absent, waiting, opened, shut, slotInOrder, takenOf, emptySlot}
-use Rattle.session.specs.Deliver.{bareRefusal, asItStands, withPiece, deliverTo, slotOf, onNote, deliver, ask}
+use Rattle.session.specs.Slots.{absent, waiting, opened, shut, slotInOrder, bytesTaken, emptySlot}
+use Rattle.session.specs.Deliver.{bareRefusal, asItStands, withPiece, slotOf, onNote, deliver, ask}
 use Rattle.session.specs.declared.Slot.{Slot}
 use Rattle.session.specs.declared.Session.{Session}
 use Rattle.session.specs.declared.Answer.{Answer}
@@ -45,11 +45,11 @@ pub data Row (s : Session) (note : ℕ) (piece : List ℕ) : Delivered → Type 
       → Row s note piece (record { answer = asItStands decided (slotOf s note); session = s })
   -- 8: "taken + piece exceeds length"; "as they stood; nothing of the piece taken"
   row8 : Listed s note → slotInOrder (slotOf s note) ≡ true → slotOf s note .status ≡ waiting
-      → slotOf s note .sample .length < takenOf (slotOf s note) + length piece
+      → slotOf s note .sample .length < bytesTaken (slotOf s note) + length piece
       → Row s note piece (record { answer = asItStands past-length (slotOf s note); session = s })
   -- 0: "an accepted call": the piece is taken, and the slot answers as it then stands
   row0 : Listed s note → slotInOrder (slotOf s note) ≡ true → slotOf s note .status ≡ waiting
-      → takenOf (slotOf s note) + length piece ≤ slotOf s note .sample .length
+      → bytesTaken (slotOf s note) + length piece ≤ slotOf s note .sample .length
       → Row s note piece
       (record {
         answer = asItStands accepted (withPiece (slotOf s note) piece);
@@ -62,12 +62,14 @@ pub data AskRow (s : Session) (note : ℕ) : Answer → Type 0 where
   ask6 : Listed s note → slotInOrder (slotOf s note) ≡ false → AskRow s note (bareRefusal slot-not-in-order)
   ask0 : Listed s note → slotInOrder (slotOf s note) ≡ true → AskRow s note (asItStands accepted (slotOf s note))
 
--- What a piece that fits makes of a waiting note, from any stored slot in order: below the length it waits; "A piece that reaches the length exactly decides
--- the note", open exactly when final answers the record's digest.
-pub record Outcome (slot : Slot) (piece : List ℕ) (status : ℕ) : Type 0 where
-  pub waits : takenOf slot + length piece < slot .sample .length → status ≡ waiting
-  pub opens : takenOf slot + length piece ≡ slot .sample .length → (status ≡ opened) ↔ (slot .sample .digest ≡ finish (taken (slot .state) piece) .bytes)
-  pub shuts : takenOf slot + length piece ≡ slot .sample .length → (status ≡ shut) ↔ (slot .sample .digest ≡ finish (taken (slot .state) piece) .bytes → ⊥)
+-- What row 0 leaves of a waiting slot in order: the record; below the length the state with the piece in it; "A piece that reaches the length exactly
+-- decides the note", open exactly when final answers the record's digest, and "A decided slot holds a fresh state".
+pub record Outcome (before : Slot) (piece : List ℕ) (after : Slot) : Type 0 where
+  pub keeps : after .sample ≡ before .sample
+  pub waits : bytesTaken before + length piece < before .sample .length → (after .status ≡ waiting) × (after .state ≡ taken (before .state) piece)
+  pub leaves : bytesTaken before + length piece ≡ before .sample .length → after .state ≡ fresh
+  pub opens : bytesTaken before + length piece ≡ before .sample .length → (after .status ≡ opened) ↔ (before .sample .digest ≡ finish (taken (before .state) piece) .bytes)
+  pub shuts : bytesTaken before + length piece ≡ before .sample .length → (after .status ≡ shut) ↔ (before .sample .digest ≡ finish (taken (before .state) piece) .bytes → ⊥)
 
 -- two operations on different notes, in either order: the same answers, and the same session at the end
 pub record Apart (s : Session) (m n : ℕ) (f g : Slot → Step) : Type 0 where
@@ -78,7 +80,7 @@ pub record Promises : Type 0 where
   -- "32 slots, one a note": the first is note 1's
   pub places : (s : Session) (note : ℕ) → 1 ≤ note → note ≤ 32 → slotOf s note ≡ getD (s .slots) (note - 1) emptySlot
   -- "A listed slot is in order when its record obeys rules 3 and 4, and" its state fits its status
-  pub inOrder : (s : Slot) → (slotInOrder s ≡ true) ↔ ((obeys (s .sample) ≡ true) × StateInOrder s)
+  pub slotsInOrder : (s : Slot) → (slotInOrder s ≡ true) ↔ ((obeys (s .sample) ≡ true) × StateInOrder s)
   -- "Given exactly when": what a delivery answers and leaves is a row of the table that holds, and no other row holds
   pub table : (s : Session) (note : ℕ) (piece : List ℕ) (d : Delivered) → (d ≡ deliver s note piece) ↔ Row s note piece d
   pub askTable : (s : Session) (note : ℕ) (a : Answer) → (a ≡ ask s note) ↔ AskRow s note a
@@ -87,13 +89,14 @@ pub record Promises : Type 0 where
   -- "An empty piece to a waiting note is accepted and changes nothing"
   pub emptyPiece : (s : Session) (note : ℕ) → Listed s note → slotInOrder (slotOf s note) ≡ true → slotOf s note .status ≡ waiting
       → deliver s note [] ≡ record { answer = asItStands accepted (slotOf s note); session = s }
-  -- open, shut or waiting, by the bytes taken and the piece alone
-  pub outcome : (s : Session) (note : ℕ) (piece : List ℕ) → Listed s note → slotInOrder (slotOf s note) ≡ true → slotOf s note .status ≡ waiting
-      → Outcome (slotOf s note) piece (deliver s note piece .answer .status)
+  -- what row 0 leaves, in the words of the paper
+  pub outcome : (slot : Slot) (piece : List ℕ) → slotInOrder slot ≡ true → slot .status ≡ waiting → bytesTaken slot + length piece ≤ slot .sample .length
+      → Outcome slot piece (withPiece slot piece)
   -- bytes taken are those taken before and the piece, decided or not
   pub counted : (s : Session) (note : ℕ) (piece : List ℕ) → deliver s note piece .answer .no ≡ accepted
-      → deliver s note piece .answer .taken ≡ takenOf (slotOf s note) + length piece
-  -- a note keeps its record, loop and digest, whatever is delivered to it
-  pub recordKept : (s : Slot) (piece : List ℕ) → deliverTo s piece .slot .sample ≡ s .sample
-  -- "A delivery looks at its own slot only", and so does any other operation on one note
+      → deliver s note piece .answer .taken ≡ bytesTaken (slotOf s note) + length piece
+  -- "A delivery looks at its own slot only", and so does any other operation on one note: the answer goes by that slot, and every other one stays
+  pub ownSlot : (s t : Session) (note : ℕ) (f : Slot → Step) → slotOf s note ≡ slotOf t note → onNote s note f .answer ≡ onNote t note f .answer
+  pub otherSlots : (s : Session) (note m : ℕ) (f : Slot → Step) → (note ≡ m → ⊥) → 1 ≤ m → m ≤ 32 → slotOf (onNote s note f .session) m ≡ slotOf s m
+  -- so operations on different notes may change places
   pub apart : (s : Session) (m n : ℕ) (f g : Slot → Step) → (m ≡ n → ⊥) → Apart s m n f g

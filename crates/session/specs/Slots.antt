@@ -37,8 +37,8 @@ unfoldable pub slotInOrder : Slot → Bool
 slotInOrder s = obeys (s .sample) && stateInOrder s
 
 -- bytes taken: those in the hash state, "the length once decided"
-unfoldable pub takenOf : Slot → ℕ
-takenOf s = cond (eqb (s .status) waiting) (s .state .total) (s .sample .length)
+unfoldable pub bytesTaken : Slot → ℕ
+bytesTaken s = cond (eqb (s .status) waiting) (s .state .total) (s .sample .length)
 
 -- "the sheet reader gives such a slot record zero and a fresh state"
 unfoldable pub emptySlot : Slot

@@ -1,6 +1,6 @@
 // The loading session.
 ghost use mathlib.Core.Path.{_≡_};
-ghost use Rattle.session.specs.Slots.{isDecided, stateInOrder, slotInOrder, takenOf, emptySlot, waitingSlot, emptySession};
+ghost use Rattle.session.specs.Slots.{isDecided, stateInOrder, slotInOrder, bytesTaken, emptySlot, waitingSlot, emptySession};
 ghost use Rattle.session.specs.Deliver.{bareRefusal, asItStands, decidedSlot, withPiece, deliverTo, askOf, isListed, deliverAt, askAt, placeOf, deliver, ask};
 use hash::Hash;
 use refusal::ACCEPTED;
@@ -85,8 +85,8 @@ fn slot_in_order(s: Slot) -> bool
 }
 
 // Bytes taken.
-fn taken_of(s: Slot) -> u64
-    ensures { λ r. ⌜ r ≡ takenOf s ⌝ }
+fn bytes_taken(s: Slot) -> u64
+    ensures { λ r. ⌜ r ≡ bytesTaken s ⌝ }
 {
     let status = s.status;
     if status == WAITING {
@@ -145,7 +145,7 @@ fn bare_refusal(number: u8) -> Answer
 fn as_it_stands(number: u8, s: Slot) -> Answer
     ensures { λ r. ⌜ r ≡ asItStands number s ⌝ }
 {
-    let taken = taken_of(s);
+    let taken = bytes_taken(s);
     Answer {
         no: number,
         status: s.status,

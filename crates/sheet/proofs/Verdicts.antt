@@ -13,7 +13,7 @@ use Rattle.same.proofs.Tests.{second}
 use Rattle.rules.proofs.Rules.{count-rule-is}
 use Rattle.rules.specs.Rules.{countRule, noteRule, lengthRule, loopRule}
 use Rattle.lines.specs.Reading.{nothing, noteLine, headerLine}
-use Rattle.sheet.specs.Judging.{headerNumber, entryNumber, noteNumber, allGood, badLine, judgedNotes, judged}
+use Rattle.sheet.specs.Judging.{headerNumber, entryNumber, noteNumber, allGood, verdictAt, judgedNotes, judged}
 use Rattle.lines.specs.declared.Field.{Field}
 use Rattle.lines.specs.declared.Entry.{Entry}
 use Rattle.lines.specs.declared.NoteLine.{NoteLine}
@@ -74,7 +74,7 @@ most-notes h number e good = go (eqb (h .wanted) nothing) (countRule (h .value))
 
 -- line 1 decides, or the note lines do
 pub header-decides : (text : List ℕ) (h : Field) (number : ℕ) → h ≡ headerLine text → number ≡ headerNumber h → (number ≡ accepted → ⊥)
-    → badLine number 1 ≡ judged text
+    → verdictAt number 1 ≡ judged text
 unfolding judged
 header-decides text h number eh en bad = rw (← eh, ← en) (simp (ne-eqb number accepted bad))
 
@@ -85,7 +85,7 @@ notes-decide text h number eh en good = rw (← eh, ← en) (simp (eq-eqb number
 
 -- a note line decides, or those after it do
 module _ (text : List ℕ) (notes at line last : ℕ) (l : NoteLine) (el : l ≡ noteLine text at) (number : ℕ) (en : number ≡ noteNumber last l) where
-  pub this-decides : (number ≡ accepted → ⊥) → judgedNotes (suc notes) text at line last ≡ badLine number line
+  pub this-decides : (number ≡ accepted → ⊥) → judgedNotes (suc notes) text at line last ≡ verdictAt number line
   unfolding judgedNotes
   this-decides bad = rw (← el, ← en) (simp (ne-eqb number accepted bad))
 
@@ -94,12 +94,12 @@ module _ (text : List ℕ) (notes at line last : ℕ) (l : NoteLine) (el : l ≡
   rest-decides good = rw (← el, ← en) (simp (eq-eqb number accepted good))
 
 -- after the last note line
-pub text-follows : (text : List ℕ) (at line last : ℕ) → at < length text → judgedNotes 0 text at line last ≡ badLine form line
+pub text-follows : (text : List ℕ) (at line last : ℕ) → at < length text → judgedNotes 0 text at line last ≡ verdictAt form line
 unfolding judgedNotes
 text-follows text at line last h = simp (lt-ltb at (length text) h)
 
-pub nothing-follows : (text : List ℕ) (at line last : ℕ) → length text ≤ at → judgedNotes 0 text at line last ≡ badLine accepted 0
-unfolding judgedNotes allGood badLine
+pub nothing-follows : (text : List ℕ) (at line last : ℕ) → length text ≤ at → judgedNotes 0 text at line last ≡ verdictAt accepted 0
+unfolding judgedNotes allGood verdictAt
 nothing-follows text at line last h = simp (le-ltb at (length text) h)
 
 -- the same in the loop, which has judged i note lines of so many
@@ -111,7 +111,7 @@ module _ (text : List ℕ) (count i at last : ℕ) (more : i < count) (l : NoteL
   left : count - i ≡ suc (count - (i + 1))
   left = omega arith
 
-  pub this-of-many : (number ≡ accepted → ⊥) → judgedNotes (count - i) text at (i + 2) last ≡ badLine number (i + 2)
+  pub this-of-many : (number ≡ accepted → ⊥) → judgedNotes (count - i) text at (i + 2) last ≡ verdictAt number (i + 2)
   this-of-many bad = rw left (this-decides text _ at (i + 2) last l el number en bad)
 
   pub rest-of-many : number ≡ accepted
@@ -124,8 +124,8 @@ module _ (text : List ℕ) (count i at last : ℕ) (done : count ≤ i) where
   none : count - i ≡ 0
   none = omega arith
 
-  pub text-after-all : at < length text → judgedNotes (count - i) text at (i + 2) last ≡ badLine form (i + 2)
+  pub text-after-all : at < length text → judgedNotes (count - i) text at (i + 2) last ≡ verdictAt form (i + 2)
   text-after-all h = rw none (text-follows text at (i + 2) last h)
 
-  pub end-after-all : length text ≤ at → judgedNotes (count - i) text at (i + 2) last ≡ badLine accepted 0
+  pub end-after-all : length text ≤ at → judgedNotes (count - i) text at (i + 2) last ≡ verdictAt accepted 0
   end-after-all h = rw none (nothing-follows text at (i + 2) last h)

@@ -29,26 +29,27 @@ entryNumber last e =
 unfoldable pub noteNumber : ℕ → NoteLine → ℕ
 noteNumber last l = cond (eqb (l .wanted) nothing) (entryNumber last (l .entry)) form
 
--- no line is bad: "an accepted sheet's line is 0"; or one is, with its number
-unfoldable pub allGood : Verdict
-allGood = record { no = accepted; line = 0 }
+-- a line is bad, with its number; or none is: "an accepted sheet's line is 0"
+unfoldable pub verdictAt : ℕ → ℕ → Verdict
+verdictAt number line = record { no = number; line = line }
 
-unfoldable pub badLine : ℕ → ℕ → Verdict
-badLine number line = record { no = number; line = line }
+unfoldable pub allGood : Verdict
+unfolding verdictAt
+allGood = verdictAt accepted 0
 
 -- the lines of so many notes more, from a place, a line's number and the note before; then "Nothing follows"
 unfoldable pub judgedNotes : ℕ → List ℕ → ℕ → ℕ → ℕ → Verdict
-judgedNotes zero text at line last = cond (ltb at (length text)) (badLine form line) allGood
+judgedNotes zero text at line last = cond (ltb at (length text)) (verdictAt form line) allGood
 judgedNotes (suc notes) text at line last =
     let l = noteLine text at in
     let rest = judgedNotes notes text (l .at) (line + 1) (l .entry .note) in
-    cond (eqb (noteNumber last l) accepted) rest (badLine (noteNumber last l) line)
+    cond (eqb (noteNumber last l) accepted) rest (verdictAt (noteNumber last l) line)
 
 -- line 1, and then the lines of n notes
 unfoldable pub judged : List ℕ → Verdict
 judged text =
     let h = headerLine text in
-    cond (eqb (headerNumber h) accepted) (judgedNotes (h .value) text (h .at) 2 0) (badLine (headerNumber h) 1)
+    cond (eqb (headerNumber h) accepted) (judgedNotes (h .value) text (h .at) 2 0) (verdictAt (headerNumber h) 1)
 
 -- the entries of so many note lines, from a place
 unfoldable pub entriesAt : ℕ → List ℕ → ℕ → List Entry

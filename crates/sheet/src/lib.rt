@@ -1,6 +1,6 @@
 // The rank sheet, judged line by line, and the session that it gives.
 ghost use mathlib.Core.Path.{_≡_};
-ghost use Rattle.sheet.specs.Judging.{headerNumber, entryNumber, noteNumber, badLine, judged, entriesAt, withNotes, sheetOf};
+ghost use Rattle.sheet.specs.Judging.{headerNumber, entryNumber, noteNumber, verdictAt, judged, entriesAt, withNotes, sheetOf};
 ghost use Rattle.sheet.specs.Filling.{start, listing};
 ghost use Rattle.session.specs.Slots.{emptySession};
 use lines::Entry;
@@ -84,8 +84,8 @@ pub fn note_number(last: u32, l: NoteLine) -> u8
     entry_number(last, e)
 }
 
-fn bad_line(number: u8, line: u32) -> Verdict
-    ensures { λ r. ⌜ r ≡ badLine number line ⌝ }
+fn verdict_at(number: u8, line: u32) -> Verdict
+    ensures { λ r. ⌜ r ≡ verdictAt number line ⌝ }
 {
     Verdict { no: number, line }
 }
@@ -97,7 +97,7 @@ pub fn judged(text: &[u8]) -> Verdict
     let h = lines::header_line(text);
     let first = header_number(h);
     if first != ACCEPTED {
-        return bad_line(first, 1);
+        return verdict_at(first, 1);
     }
     let count = h.value;
     let mut at = h.at;
@@ -107,7 +107,7 @@ pub fn judged(text: &[u8]) -> Verdict
         let l = lines::note_line(text, at);
         let no = note_number(last, l);
         if no != ACCEPTED {
-            return bad_line(no, i + 2);
+            return verdict_at(no, i + 2);
         }
         let e = l.entry;
         last = e.note;
@@ -115,9 +115,9 @@ pub fn judged(text: &[u8]) -> Verdict
         i += 1;
     }
     if at < text.len() {
-        return bad_line(FORM, i + 2);
+        return verdict_at(FORM, i + 2);
     }
-    bad_line(ACCEPTED, 0)
+    verdict_at(ACCEPTED, 0)
 }
 
 // Where the note lines begin and how many there are: none of a refused sheet.
@@ -156,14 +156,14 @@ fn filled(text: &[u8], at: usize, notes: u32) -> Session
     ensures { λ r. ⌜ r ≡ withNotes emptySession (entriesAt notes (now (text .entry)) at) ⌝ }
 {
     let mut session = session::empty_session();
-    let mut place = at;
+    let mut next = at;
     let mut i: u32 = 0;
     while i < notes {
-        let l = listing_at(text, place);
-        let k = l.place;
+        let l = listing_at(text, next);
+        let place = l.place;
         let slot = l.slot;
-        session.slots[k] = slot;
-        place = l.next;
+        session.slots[place] = slot;
+        next = l.next;
         i += 1;
     }
     session

@@ -10,7 +10,7 @@ use lib.ListN.{length, getD, drop}
 use lib.Seq.{drop-cons}
 use Rattle.hex.specs.Digits.{digitOf}
 use Rattle.hex.proofs.Digits.{digit-value, digit-below, value-digit}
-use Rattle.lines.specs.Reading.{nothing, digit, digestIs, digestFault, digitAt, pairAt, digestFrom, digestAt}
+use Rattle.lines.specs.Reading.{nothing, digit, goodDigest, digestFault, digitAt, pairAt, digestFrom, digestAt}
 use Rattle.lines.specs.declared.DigestField.{DigestField}
 use Rattle.lines.proofs.Digests.{digit-before, pair-none, pair-one, pair-both}
 use Rattle.lines.proofs.Tests.{below-or-not}
@@ -24,7 +24,7 @@ two-a-byte text bytes (pair {text = t} {bytes = b} high low dh dl more) = omega 
 
 -- pairs that stand at a place are read
 pub pairs-read : (text piece bytes rest : List ℕ) (at : ℕ) (done : List ℕ) → Pairs piece bytes → drop at text ≡ piece ++ rest
-    → digestFrom (length bytes) text at done ≡ digestIs (done ++ bytes) (at + length piece)
+    → digestFrom (length bytes) text at done ≡ goodDigest (done ++ bytes) (at + length piece)
 unfolding digestFrom digitAt pairAt
 pairs-read text piece bytes rest at done no-pair e = rw (append-nil done, add-zero at)
 pairs-read text piece bytes rest at done (pair {first = a} {second = b} {text = t} {bytes = bs} high low dh dl more) e =
@@ -36,7 +36,7 @@ pairs-read text piece bytes rest at done (pair {first = a} {second = b} {text = 
     ∙ pairs-read text t bs rest (at + 2) (done ++ (pairAt text at ∷ [])) more (behind text (a ∷ b ∷ []) (t ++ rest) at e)
     ∙ rw (ha, hb, place, append-assoc done ((high * 16 + low) ∷ []) bs)
 
-pub digest-read : (text piece bytes rest : List ℕ) (at : ℕ) → IsDigest piece bytes → drop at text ≡ piece ++ rest → digestAt text at ≡ digestIs bytes (at + length piece)
+pub digest-read : (text piece bytes rest : List ℕ) (at : ℕ) → IsDigest piece bytes → drop at text ≡ piece ++ rest → digestAt text at ≡ goodDigest bytes (at + length piece)
 unfolding IsDigest digestAt
 digest-read text piece bytes rest at d e =
     let size : length bytes ≡ 32 = omega (arith, two-a-byte piece bytes (d .0)) in
@@ -75,7 +75,7 @@ more-stand n text at done ha hb p =
     }
 
 pub pairs-stand : (n : ℕ) (text : List ℕ) (at : ℕ) (done : List ℕ) → digestFrom n text at done .wanted ≡ nothing → PairsStand n text at done
-unfolding digestFrom digestIs digestFault
+unfolding digestFrom goodDigest digestFault
 pairs-stand zero text at done h = record { piece = []; bytes = []; pairs = no-pair; size = refl; read = sym (append-nil done); cut = refl }
 pairs-stand (suc n) text at done h =
     let none : (place : ℕ) → digestFrom (suc n) text at done ≡ digestFault place → PairsStand (suc n) text at done =

@@ -8,7 +8,7 @@ use native.Mathlib.Omega.{arith}
 use borrow.Author.Tests.{eqb-true, eqb-false}
 use lib.Dec.{eqb}
 use lib.ListN.{length, drop, length-append}
-use Rattle.lines.specs.Reading.{nothing, separator, fieldIs, fieldFault, isFigure, hasAt, firstNumber, numberAt, fieldAt}
+use Rattle.lines.specs.Reading.{nothing, separator, goodField, fieldFault, isFigure, hasAt, firstNumber, numberAt, fieldAt}
 use Rattle.lines.specs.declared.Field.{Field}
 use Rattle.lines.proofs.Lines.{field-none, field-open, field-closed}
 use Rattle.lines.proofs.Tests.{either}
@@ -22,17 +22,17 @@ surely what h = ⊎-elim (λ e. eqb-true what nothing e) (λ e. absurd (h (eqb-f
 
 -- a field that stands at a place is read
 pub field-read : (text piece rest : List ℕ) (at value ending : ℕ) → isFigure ending ≡ false → IsField piece value ending → drop at text ≡ piece ++ rest
-    → fieldAt text at ending ≡ fieldIs value (at + length piece)
-unfolding numberAt fieldIs
+    → fieldAt text at ending ≡ goodField value (at + length piece)
+unfolding numberAt goodField
 field-read text piece rest at value ending other f e =
     let digits : List ℕ = f .number in
     let stands : drop at text ≡ digits ++ (ending ∷ rest) =
     e ∙ ap (λ (l : List ℕ). l ++ rest) (f .whole) ∙ append-assoc digits (ending ∷ []) rest in
-    let n : numberAt text at ≡ fieldIs value (at + length digits) =
+    let n : numberAt text at ≡ goodField value (at + length digits) =
     ap (firstNumber at) stands ∙ number-read at digits value ending rest (f .is-number) other in
     let closed : hasAt text (at + length digits) ending ≡ true = stands-has text rest (at + length digits) ending (behind text digits (ending ∷ rest) at stands) in
     let place : at + length digits + 1 ≡ at + length piece = omega (arith, ap length (f .whole), length-append digits (ending ∷ [])) in
-    sym (field-closed text at ending (fieldIs value (at + length digits)) (sym n) refl closed) ∙ ap (fieldIs value) place
+    sym (field-closed text at ending (goodField value (at + length digits)) (sym n) refl closed) ∙ ap (goodField value) place
 
 -- what is read as a field stands there
 pub record FieldStands (text : List ℕ) (at ending : ℕ) : Type 0 where
@@ -54,10 +54,10 @@ module _ (text : List ℕ) (at ending : ℕ) (h : fieldAt text at ending .wanted
       (either (hasAt text (numberAt text at .at) ending))
 
   pub field-stands : FieldStands text at ending
-  unfolding numberAt fieldIs
+  unfolding numberAt goodField
   field-stands =
       let b = begins at (drop at text) number-there in
-      let read : fieldIs (numberAt text at .value) (numberAt text at .at + 1) ≡ fieldAt text at ending =
+      let read : goodField (numberAt text at .value) (numberAt text at .at + 1) ≡ fieldAt text at ending =
       field-closed text at ending (numberAt text at) refl number-there ending-there in
       let value : fieldAt text at ending .value ≡ b .value = ap (λ (f : Field). f .value) (sym read) ∙ ap (λ (f : Field). f .value) (b .read) in
       let place : numberAt text at .at ≡ at + length (b .text) = ap (λ (f : Field). f .at) (b .read) in

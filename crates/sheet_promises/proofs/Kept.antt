@@ -6,7 +6,7 @@ use mathlib.Core.Logic.{⊎-elim}
 use borrow.Author.Tests.{eq-eqb, ne-eqb}
 use Rattle.refusal.specs.Table.{accepted}
 use Rattle.session.specs.Slots.{emptySession}
-use Rattle.sheet.specs.Judging.{badLine, judged, sessionOf, sheetIs, sheetOf}
+use Rattle.sheet.specs.Judging.{verdictAt, judged, sessionOf, sheetIs, sheetOf}
 use Rattle.lines.specs.declared.Entry.{Entry}
 use Rattle.sheet.specs.declared.Verdict.{Verdict}
 use Rattle.sheet_promises.specs.Grammar.{IsNumber, IsSheet}
@@ -14,16 +14,17 @@ use Rattle.sheet_promises.specs.Faults.{Refused}
 use Rattle.sheet_promises.specs.Promises.{Promises, Lists}
 use Rattle.sheet_promises.proofs.Numbers.{one-decimal}
 use Rattle.sheet_promises.proofs.Sheets.{sheet-accepted, sheet-entries, bad-refused, never-accepted, sheet-or-refused}
-use Rattle.sheet_promises.proofs.Listing.{lists-entries}
+use Rattle.sheet_promises.proofs.Following.{text-after}
+use Rattle.sheet_promises.proofs.Listing.{lists-entries, one-session}
 use Rattle.sheet_promises.proofs.Sizes.{sheet-size}
 
 -- a sheet's verdict, and a refused text's
 sheet-number : (text : List ℕ) (es : List Entry) → IsSheet text es → judged text .no ≡ accepted
-unfolding badLine
+unfolding verdictAt
 sheet-number text es s = ap (λ (v : Verdict). v .no) (sheet-accepted text es s)
 
 sheet-line : (text : List ℕ) (es : List Entry) → IsSheet text es → judged text .line ≡ 0
-unfolding badLine
+unfolding verdictAt
 sheet-line text es s = ap (λ (v : Verdict). v .line) (sheet-accepted text es s)
 
 is-sheet : (text : List ℕ) → judged text .no ≡ accepted → (es : List Entry) × IsSheet text es
@@ -47,18 +48,21 @@ unfolding sessionOf
 lists-lines text es s = rw (good-session text (sheet-number text es s), sheet-entries text es s) (lists-entries es (s .obeyed))
 
 pub kept : Promises
-unfolding IsNumber sheetOf sheetIs badLine
+unfolding IsNumber sheetOf sheetIs verdictAt
 kept =
     record {
       accepts = λ text. (is-sheet text, λ s. sheet-number text (s .0) (s .1));
       line = λ text good. let s = is-sheet text good in sheet-line text (s .0) (s .1);
       lists = lists-lines;
+      one-session = one-session;
       refuses = λ text number line. (
         λ h. is-refused text number line (h .0) (h .1) (h .2),
         λ r.
             let e = bad-refused text number line r in
             (ap (λ (v : Verdict). v .no) e, ap (λ (v : Verdict). v .line) e, never-accepted text number line r),
       );
+      follows = text-after;
+      verdict = λ text. refl;
       refused = bad-session;
       size = sheet-size;
       one-spelling = λ text other value n m. one-decimal text other value value (n .0) (m .0) refl;

@@ -6,6 +6,7 @@ pub mod Lines
 pub mod Rules
 pub mod Notes
 pub mod Sheets
+pub mod Following
 pub mod Listing
 pub mod Records
 pub mod Sizes

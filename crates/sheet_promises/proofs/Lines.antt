@@ -7,7 +7,7 @@ use mathlib.Core.Logic.{⊎-elim}
 use native.Mathlib.Nat.{add-zero}
 use native.Mathlib.Omega.{arith}
 use lib.ListN.{length, drop, length-append}
-use Rattle.lines.specs.Reading.{nothing, word, separator, tab, lf, fieldIs, fieldFault, digestIs, hasAt, markAt, wordAt, fieldAt, digestAt, isFigure, lineIs, lineFault, noteLine, headerLine}
+use Rattle.lines.specs.Reading.{nothing, word, separator, tab, lf, goodField, fieldFault, goodDigest, hasAt, markAt, wordAt, fieldAt, digestAt, isFigure, goodLine, lineFault, noteLine, headerLine}
 use Rattle.lines.specs.declared.Field.{Field}
 use Rattle.lines.specs.declared.DigestField.{DigestField}
 use Rattle.lines.specs.declared.Entry.{Entry}
@@ -26,8 +26,8 @@ part-behind text front more rest at e = behind text front (more ++ rest) at (e �
 
 -- a line that stands at a place is read
 pub line-read : (text piece rest : List ℕ) (at : ℕ) (e : Entry) → IsLine piece e → drop at text ≡ piece ++ rest
-    → noteLine text at ≡ lineIs e (at + length piece)
-unfolding fieldIs digestIs isFigure
+    → noteLine text at ≡ goodLine e (at + length piece)
+unfolding goodField goodDigest isFigure
 line-read text piece rest at e l stands =
     let s0 : drop at text ≡ (l .note ++ (l .bytes ++ (l .start ++ (l .end ++ (l .digest ++ (lf ∷ [])))))) ++ rest =
     stands ∙ ap (λ (p : List ℕ). p ++ rest) (l .whole) in
@@ -43,13 +43,13 @@ line-read text piece rest at e l stands =
     let s5 : drop p5 text ≡ lf ∷ rest = part-behind text (l .digest) (lf ∷ []) rest p4 s4 in
     let place : p5 + 1 ≡ at + length piece = omega (arith, simp length-append at (ap length (l .whole))) in
     sym (whole-line text at
-    (fieldIs (e .note) p1) (sym (field-read text (l .note) _ at (e .note) tab refl (l .is-note) (s0 ∙ append-assoc (l .note) _ rest))) refl
-    (fieldIs (e .sample .length) p2) (sym (field-read text (l .bytes) _ p1 (e .sample .length) tab refl (l .is-length) (s1 ∙ append-assoc (l .bytes) _ rest))) refl
-    (fieldIs (e .sample .start) p3) (sym (field-read text (l .start) _ p2 (e .sample .start) tab refl (l .is-start) (s2 ∙ append-assoc (l .start) _ rest))) refl
-    (fieldIs (e .sample .end) p4) (sym (field-read text (l .end) _ p3 (e .sample .end) tab refl (l .is-end) (s3 ∙ append-assoc (l .end) _ rest))) refl
-    (digestIs (e .sample .digest) p5) (sym (digest-read text (l .digest) (e .sample .digest) _ p4 (l .is-digest) (s4 ∙ append-assoc (l .digest) _ rest))) refl
-    (fieldIs 0 (p5 + 1)) (sym (mark-there text p5 lf separator (stands-has text rest p5 lf s5))) refl)
-    ∙ ap (lineIs e) place
+    (goodField (e .note) p1) (sym (field-read text (l .note) _ at (e .note) tab refl (l .is-note) (s0 ∙ append-assoc (l .note) _ rest))) refl
+    (goodField (e .sample .length) p2) (sym (field-read text (l .bytes) _ p1 (e .sample .length) tab refl (l .is-length) (s1 ∙ append-assoc (l .bytes) _ rest))) refl
+    (goodField (e .sample .start) p3) (sym (field-read text (l .start) _ p2 (e .sample .start) tab refl (l .is-start) (s2 ∙ append-assoc (l .start) _ rest))) refl
+    (goodField (e .sample .end) p4) (sym (field-read text (l .end) _ p3 (e .sample .end) tab refl (l .is-end) (s3 ∙ append-assoc (l .end) _ rest))) refl
+    (goodDigest (e .sample .digest) p5) (sym (digest-read text (l .digest) (e .sample .digest) _ p4 (l .is-digest) (s4 ∙ append-assoc (l .digest) _ rest))) refl
+    (goodField 0 (p5 + 1)) (sym (mark-there text p5 lf separator (stands-has text rest p5 lf s5))) refl)
+    ∙ ap (goodLine e) place
 
 -- the fields that a note line is read as, one behind the other
 abbrev f1 : List ℕ → ℕ → Field
@@ -73,7 +73,7 @@ c6 text at = markAt text (d5 text at .at) lf separator
 -- one given byte that is read stands there
 pub mark-stands : (text : List ℕ) (at mark what : ℕ) → (what ≡ nothing → ⊥) → markAt text at mark what .wanted ≡ nothing
     → drop at text ≡ mark ∷ drop (markAt text at mark what .at) text
-unfolding fieldIs fieldFault
+unfolding goodField fieldFault
 mark-stands text at mark what real h =
     ⊎-elim (λ e. has-stands text at mark e ∙ ap (λ (f : Field). mark ∷ drop (f .at) text) (sym (mark-there text at mark what e)))
     (λ e. absurd (real (ap (λ (f : Field). f .wanted) (sym (mark-missing text at mark what e)) ∙ h)))
@@ -115,12 +115,12 @@ module _ (text : List ℕ) (at : ℕ) (h : noteLine text at .wanted ≡ nothing)
         sample = record { length = f2 text at .value; start = f3 text at .value; end = f4 text at .value; digest = d5 text at .bytes };
       }
 
-  is-read : noteLine text at ≡ lineIs read (c6 text at .at)
+  is-read : noteLine text at ≡ goodLine read (c6 text at .at)
   unfolding read
   is-read = sym (whole-line text at _ refl h1 _ refl h2 _ refl h3 _ refl h4 _ refl h5 _ refl h6)
 
   pub line-stands : LineStands text at
-  unfolding lineIs read
+  unfolding goodLine read
   line-stands =
       let s1 = field-stands text at tab h1 in
       let s2 = field-stands text (f1 text at .at) tab h2 in
@@ -155,18 +155,18 @@ module _ (text : List ℕ) (at : ℕ) (h : noteLine text at .wanted ≡ nothing)
       record { piece = whole; is-line = rw is-read line; cut = rw is-read (parts ∙ sym (simp append-assoc)) }
 
 -- given bytes that stand at a place are read
-word-read : (text letters rest : List ℕ) (at what : ℕ) → drop at text ≡ letters ++ rest → wordAt text at letters what ≡ fieldIs 0 (at + length letters)
+word-read : (text letters rest : List ℕ) (at what : ℕ) → drop at text ≡ letters ++ rest → wordAt text at letters what ≡ goodField 0 (at + length letters)
 unfolding wordAt
-word-read text [] rest at what e = ap (fieldIs 0) (sym (add-zero at))
+word-read text [] rest at what e = ap (goodField 0) (sym (add-zero at))
 word-read text (letter ∷ letters) rest at what e =
     let place : at + 1 + length letters ≡ at + length (letter ∷ letters) = omega arith in
     simp (stands-has text (letters ++ rest) at letter e)
-    (word-read text letters rest (at + 1) what (behind text (letter ∷ []) (letters ++ rest) at e) ∙ ap (fieldIs 0) place)
+    (word-read text letters rest (at + 1) what (behind text (letter ∷ []) (letters ++ rest) at e) ∙ ap (goodField 0) place)
 
 -- and given bytes that are read stand there
 word-stands : (text letters : List ℕ) (at what : ℕ) → (what ≡ nothing → ⊥) → wordAt text at letters what .wanted ≡ nothing
     → drop at text ≡ letters ++ drop (wordAt text at letters what .at) text
-unfolding wordAt fieldIs fieldFault
+unfolding wordAt goodField fieldFault
 word-stands text [] at what real h = refl
 word-stands text (letter ∷ letters) at what real h = go (hasAt text at letter) refl (word-stands text letters (at + 1) what real)
   where
@@ -177,17 +177,17 @@ word-stands text (letter ∷ letters) at what real h = go (hasAt text at letter)
     go false e next = absurd (real (simp e at h))
 
 -- a header that the text begins with is read
-pub header-read : (text piece rest : List ℕ) (count : ℕ) → IsHeader piece count → text ≡ piece ++ rest → headerLine text ≡ fieldIs count (length piece)
-unfolding fieldIs isFigure
+pub header-read : (text piece rest : List ℕ) (count : ℕ) → IsHeader piece count → text ≡ piece ++ rest → headerLine text ≡ goodField count (length piece)
+unfolding goodField isFigure
 header-read text piece rest count h e =
     let stands : text ≡ 0x52 ∷ 0x41 ∷ 0x4e ∷ 0x4b ∷ tab ∷ 0x31 ∷ tab ∷ (h .field ++ rest) = e ∙ ap (λ (p : List ℕ). p ++ rest) (h .whole) in
     let place : 7 + length (h .field) ≡ length piece = omega (arith, ap length (h .whole)) in
-    sym (header-count text (fieldIs 0 4) (sym (word-read text (0x52 ∷ 0x41 ∷ 0x4e ∷ 0x4b ∷ []) _ 0 word stands)) refl
-    (fieldIs 0 5) (sym (mark-there text 4 tab separator (stands-has text _ 4 tab (ap (drop 4) stands)))) refl
-    (fieldIs 0 6) (sym (mark-there text 5 0x31 word (stands-has text _ 5 0x31 (ap (drop 5) stands)))) refl
-    (fieldIs 0 7) (sym (mark-there text 6 tab separator (stands-has text _ 6 tab (ap (drop 6) stands)))) refl)
+    sym (header-count text (goodField 0 4) (sym (word-read text (0x52 ∷ 0x41 ∷ 0x4e ∷ 0x4b ∷ []) _ 0 word stands)) refl
+    (goodField 0 5) (sym (mark-there text 4 tab separator (stands-has text _ 4 tab (ap (drop 4) stands)))) refl
+    (goodField 0 6) (sym (mark-there text 5 0x31 word (stands-has text _ 5 0x31 (ap (drop 5) stands)))) refl
+    (goodField 0 7) (sym (mark-there text 6 tab separator (stands-has text _ 6 tab (ap (drop 6) stands)))) refl)
     ∙ field-read text (h .field) rest 7 count lf refl (h .is-count) (ap (drop 7) stands)
-    ∙ ap (fieldIs count) place
+    ∙ ap (goodField count) place
 
 -- what a header is read as, part by part
 abbrev w1 : List ℕ → Field

@@ -1,22 +1,26 @@
 -- The session that lists entries: each one's slot, and the other slots. Assumes nothing.
-use Prim.Native.Nat.{ℕ, _<_}
+use Prim.Native.Nat.{ℕ, _+_, _-_, _<_, _≤_}
 use mathlib.Core.Path.{_≡_, refl, sym, _∙_}
 use mathlib.Core.List.{List, [], _∷_}
 use mathlib.Core.Bool.{true}
+use mathlib.Core.Logic.{_⊎_, inl, inr, ⊎-elim, ⊎-map}
+use borrow.Author.Tests.{eqb-true, eqb-false}
+use lib.Dec.{eqb}
 use native.Mathlib.Omega.{arith}
-use lib.ListN.{length, set, length-set, getD-replicate}
-use lib.Seq.{getD-set-same, getD-set-other}
+use lib.ListN.{length, getD, set, length-set, getD-replicate}
+use lib.Seq.{getD-set-same, getD-set-other, ext-getD}
 use Rattle.session.specs.Slots.{emptySlot, waitingSlot, emptySession}
 use Rattle.rules.specs.Rules.{isNote, noteRule}
 use Rattle.rules.proofs.Rules.{is-note-is, note-rule-is}
 use Rattle.session.specs.Deliver.{placeOf, slotOf}
 use Rattle.session.specs.declared.Session.{Session}
-use Rattle.session.proofs.Places.{place-lt}
+use Rattle.session.proofs.Places.{place-lt, slot-at}
 use Rattle.session.proofs.Apart.{places-differ}
 use Rattle.same.proofs.Tests.{first as both-first}
 use Rattle.sheet.specs.Judging.{withNotes}
 use Rattle.lines.specs.declared.Entry.{Entry}
-use Rattle.sheet_promises.specs.Grammar.{Obeys, AllObey, no-entry, entry}
+use Rattle.lines.proofs.Tests.{either}
+use Rattle.sheet_promises.specs.Grammar.{ObeysRules, AllObey, no-entry, entry}
 use Rattle.sheet_promises.specs.Promises.{Among, first, further, Lists}
 
 -- the session with one entry's note listed
@@ -33,7 +37,7 @@ other s e note is is′ differ =
     getD-set-other (s .slots) (placeOf (e .note)) (placeOf note) (waitingSlot (e .sample)) emptySlot (places-differ note (e .note) (λ same. differ (sym same)) is′ is)
 
 -- what rule 2 tells of an entry
-module _ (last : ℕ) (e : Entry) (o : Obeys last e) where
+module _ (last : ℕ) (e : Entry) (o : ObeysRules last e) where
   rises : last < e .note
   rises = note-rule-is last (e .note) .0 (o .note-rule) .2
 
@@ -87,3 +91,41 @@ lists-entries es o =
       listed = own-slot emptySession 0 es empty-size o;
       others = λ note low high none. others-keep emptySession 0 es o note (is-note-is note .1 (low, high)) none ∙ empty-slots note;
     }
+
+-- a note is that of an entry, or of none
+some : {e : Entry} {es : List Entry} → Among e es → 1 ≤ length es
+some first = omega arith
+some (further a) = omega arith
+
+not-among : {d : Entry} {es : List Entry} (note : ℕ) → (d .note ≡ note → ⊥) → ((e : Entry) → Among e es → e .note ≡ note → ⊥)
+    → (e : Entry) → Among e (d ∷ es) → e .note ≡ note → ⊥
+not-among note here none e first same = here same
+not-among note here none e (further a) same = none e a same
+
+found : (note : ℕ) (es : List Entry) → ((e : Entry) × Among e es × (e .note ≡ note)) ⊎ ((e : Entry) → Among e es → e .note ≡ note → ⊥)
+found note [] = inr (λ e a same. let one = some a in omega arith)
+found note (d ∷ es) =
+    ⊎-elim
+    (λ h. inl (d, first, eqb-true (d .note) note h))
+    (λ h. ⊎-map (λ f. (f .0, further (f .1), f .2)) (not-among note (eqb-false (d .note) note h)) (found note es))
+    (either (eqb (d .note) note))
+
+-- so the session is known slot by slot
+module _ (s t : Session) (es : List Entry) (l : Lists s es) (m : Lists t es) where
+  same-slot : (note : ℕ) → 1 ≤ note → note ≤ 32 → slotOf s note ≡ slotOf t note
+  same-slot note low high =
+      ⊎-elim
+      (λ f. rw (← (f .2)) (l .listed (f .0) (f .1) ∙ sym (m .listed (f .0) (f .1))))
+      (λ none. l .others note low high none ∙ sym (m .others note low high none))
+      (found note es)
+
+  same-place : (k : ℕ) → k < length (s .slots) → getD (s .slots) k emptySlot ≡ getD (t .slots) k emptySlot
+  same-place k below =
+      let size = l .slots in
+      let back : k + 1 - 1 ≡ k = omega arith in
+      let low : 1 ≤ k + 1 = omega arith in
+      let high : k + 1 ≤ 32 = omega arith in
+      rw back at (sym (slot-at s (k + 1) low high) ∙ same-slot (k + 1) low high ∙ slot-at t (k + 1) low high)
+
+  pub one-session : s ≡ t
+  one-session = λ i. record { slots = ext-getD emptySlot (s .slots) (t .slots) (l .slots ∙ sym (m .slots)) same-place i }

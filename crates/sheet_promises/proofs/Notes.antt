@@ -9,13 +9,13 @@ use lib.Dec.{eqb}
 use lib.ListN.{length, drop, length-drop, drop-of-length-le}
 use lib.Seq.{drop-cons}
 use Rattle.refusal.specs.Table.{accepted, form}
-use Rattle.lines.specs.Reading.{nothing, lineIs, noteLine}
-use Rattle.sheet.specs.Judging.{entryNumber, noteNumber, badLine, judgedNotes, entriesAt}
+use Rattle.lines.specs.Reading.{nothing, goodLine, noteLine}
+use Rattle.sheet.specs.Judging.{entryNumber, noteNumber, verdictAt, judgedNotes, entriesAt}
 use Rattle.lines.specs.declared.Entry.{Entry}
 use Rattle.lines.specs.declared.NoteLine.{NoteLine}
 use Rattle.lines.proofs.Tests.{either, below-or-not}
 use Rattle.sheet.proofs.Verdicts.{line-ill, line-well, this-decides, rest-decides, text-follows, nothing-follows}
-use Rattle.sheet_promises.specs.Grammar.{IsLine, Lines, no-line, line, Obeys, AllObey, no-entry, entry}
+use Rattle.sheet_promises.specs.Grammar.{IsLine, Lines, no-line, line, ObeysRules, AllObey, no-entry, entry}
 use Rattle.sheet_promises.specs.Faults.{Breaks, BadLine, ill-formed, breaks, FirstBad, here, later, follows}
 use Rattle.sheet_promises.proofs.Standing.{behind, stands-below}
 use Rattle.sheet_promises.proofs.Lines.{line-read, line-stands}
@@ -23,21 +23,21 @@ use Rattle.sheet_promises.proofs.Rules.{obeys-number, breaks-number, br
 
 -- a line that stands at a place is judged by its entry
 pub entry-judged : (text piece rest : List ℕ) (at last : ℕ) (e : Entry) → IsLine piece e → drop at text ≡ piece ++ rest
-    → noteNumber last (lineIs e (at + length piece)) ≡ entryNumber last e
-unfolding lineIs
-entry-judged text piece rest at last e l stands = line-well last (lineIs e (at + length piece)) refl
+    → noteNumber last (goodLine e (at + length piece)) ≡ entryNumber last e
+unfolding goodLine
+entry-judged text piece rest at last e l stands = line-well last (goodLine e (at + length piece)) refl
 
 -- a good line, and then the others
-module _ (text piece rest : List ℕ) (notes at number last : ℕ) (e : Entry) (l : IsLine piece e) (stands : drop at text ≡ piece ++ rest) (o : Obeys last e) where
+module _ (text piece rest : List ℕ) (notes at number last : ℕ) (e : Entry) (l : IsLine piece e) (stands : drop at text ≡ piece ++ rest) (o : ObeysRules last e) where
   pub good-line : judgedNotes (suc notes) text at number last ≡ judgedNotes notes text (at + length piece) (number + 1) (e .note)
-  unfolding lineIs
+  unfolding goodLine
   good-line =
-      rest-decides text notes at number last (lineIs e (at + length piece)) (sym (line-read text piece rest at e l stands)) accepted
+      rest-decides text notes at number last (goodLine e (at + length piece)) (sym (line-read text piece rest at e l stands)) accepted
       (sym (entry-judged text piece rest at last e l stands ∙ obeys-number last e o)) refl
 
 -- lines that obey the rules, and nothing behind them
 pub all-good : (text s : List ℕ) (es : List Entry) (at number last : ℕ) → Lines s es → AllObey last es → drop at text ≡ s
-    → judgedNotes (length es) text at number last ≡ badLine accepted 0
+    → judgedNotes (length es) text at number last ≡ verdictAt accepted 0
 all-good text s es at number last no-line no-entry stands =
     nothing-follows text at number last (omega (arith, ap length stands, length-drop at text))
 all-good text s es at number last (line {text = piece} {rest = rest} {e = e} {es = more} l ls) (entry o os) stands =
@@ -46,7 +46,7 @@ all-good text s es at number last (line {text = piece} {rest = rest} {e = e} {es
 
 -- their entries are those that are read
 pub entries-read : (text s : List ℕ) (es : List Entry) (at : ℕ) → Lines s es → drop at text ≡ s → entriesAt (length es) text at ≡ es
-unfolding entriesAt lineIs
+unfolding entriesAt goodLine
 entries-read text s es at no-line stands = refl
 entries-read text s es at (line {text = piece} {rest = rest} {e = e} {es = more} l ls) stands =
     rw (line-read text piece rest at e l stands)
@@ -54,7 +54,7 @@ entries-read text s es at (line {text = piece} {rest = rest} {e = e} {es = more}
 
 -- a bad line has its number
 pub bad-number : (text s : List ℕ) (at last number : ℕ) → BadLine last s number → drop at text ≡ s → noteNumber last (noteLine text at) ≡ number
-unfolding lineIs
+unfolding goodLine
 bad-number text s at last number (ill-formed none) stands =
     line-ill last (noteLine text at) (λ well. let w = line-stands text at well in none (w .piece) _ _ (w .is-line) (sym stands ∙ w .cut))
 bad-number text s at last number (breaks piece rest e l cut b) stands =
@@ -68,7 +68,7 @@ bad-refused last s number (breaks piece rest e l cut b) h = breaks-refused last 
 
 -- the first bad line decides
 pub first-bad : (text s : List ℕ) (at now notes last number bad : ℕ) → FirstBad now notes last s number bad → drop at text ≡ s
-    → judgedNotes notes text at now last ≡ badLine number bad
+    → judgedNotes notes text at now last ≡ verdictAt number bad
 first-bad text s at now notes last number bad (here {notes = more} b) stands =
     this-decides text more at now last (noteLine text at) refl number (sym (bad-number text s at last number b stands)) (bad-refused last s number b)
 first-bad text s at now notes last number bad (later {notes = more} {front = piece} {rest = rest} {e = e} l cut o next) stands =
@@ -94,14 +94,14 @@ BadLines notes text at now last =
     FirstBad now notes last (drop at text) (judgedNotes notes text at now last .no) (judgedNotes notes text at now last .line)
 
 -- a verdict that is known
-verdict : (notes : ℕ) (text : List ℕ) (at now last number bad : ℕ) → judgedNotes notes text at now last ≡ badLine number bad
+verdict : (notes : ℕ) (text : List ℕ) (at now last number bad : ℕ) → judgedNotes notes text at now last ≡ verdictAt number bad
     → FirstBad now notes last (drop at text) number bad → BadLines notes text at now last
-unfolding badLine
+unfolding verdictAt
 verdict notes text at now last number bad e b = rw e b
 
 -- no line stands where none is read
 unread : (text : List ℕ) (at : ℕ) → (noteLine text at .wanted ≡ nothing → ⊥) → (front rest : List ℕ) (e : Entry) → IsLine front e → drop at text ≡ front ++ rest → ⊥
-unfolding lineIs
+unfolding goodLine
 unread text at ill front rest e l cut = ill (ap (λ (r : NoteLine). r .wanted) (line-read text front rest at e l cut))
 
 -- the line at a place, with what is known of those behind it
@@ -123,7 +123,7 @@ module _ (notes : ℕ) (text : List ℕ) (at now last : ℕ) where
         (this-decides text notes at now last (noteLine text at) refl _ (sym number) (breaks-refused last _ _ b))
         (here (breaks (s .piece) _ _ (s .is-line) (s .cut) b))
 
-    module _ (o : Obeys last (noteLine text at .entry)) where
+    module _ (o : ObeysRules last (noteLine text at .entry)) where
       passed : judgedNotes (suc notes) text at now last ≡ judgedNotes notes text (noteLine text at .at) (now + 1) (noteLine text at .entry .note)
       passed = rest-decides text notes at now last (noteLine text at) refl accepted (sym (number ∙ obeys-number last _ o)) refl
 

@@ -7,7 +7,7 @@ use native.Mathlib.Nat.{add-zero}
 use native.Mathlib.Omega.{arith}
 use borrow.Author.Tests.{le-leb}
 use lib.ListN.{length, length-append}
-use Rattle.lines.specs.Reading.{nothing, number, fieldIs, fieldFault, isFigure, withFigure, goesOn, figures, firstNumber}
+use Rattle.lines.specs.Reading.{nothing, number, goodField, fieldFault, isFigure, withFigure, goesOn, figures, firstNumber}
 use Rattle.lines.proofs.Numbers.{figure-from, figure-to, is-figure, goes-figure, goes-positive, goes-fits, goes-by, goes-not}
 use Rattle.sheet_promises.specs.Grammar.{Decimal, figure, longer, IsNumber}
 
@@ -32,7 +32,7 @@ through at text value rest (longer {text = front} {value = high} d begun positiv
 
 -- a number before a byte that is no figure is read
 pub number-read : (at : ℕ) (text : List ℕ) (value ending : ℕ) (rest : List ℕ) → IsNumber text value → isFigure ending ≡ false
-    → firstNumber at (text ++ (ending ∷ rest)) ≡ fieldIs value (at + length text)
+    → firstNumber at (text ++ (ending ∷ rest)) ≡ goodField value (at + length text)
 unfolding IsNumber figures
 number-read at text value ending rest n other = through at text value (ending ∷ rest) (n .0) (n .1) ∙ simp (goes-not value ending other)
 
@@ -51,7 +51,7 @@ pub record Goes (front : List ℕ) (value at : ℕ) (s : List ℕ) : Type 0 wher
   pub rest : List ℕ
   pub result : ℕ
   pub cut : s ≡ more ++ rest
-  pub read : figures value at s ≡ fieldIs result (at + length more)
+  pub read : figures value at s ≡ goodField result (at + length more)
   pub is-number : IsNumber (front ++ more) result
 
 pub goes : (front : List ℕ) (value at : ℕ) (s : List ℕ) → Decimal front value → value ≤ 4294967295 → Goes front value at s
@@ -62,7 +62,7 @@ goes front value at [] begun fits =
       rest = [];
       result = value;
       cut = refl;
-      read = ap (fieldIs value) (sym (add-zero at));
+      read = ap (goodField value) (sym (add-zero at));
       is-number = rw (append-nil front) (begun, fits);
     }
 goes front value at (byte ∷ s) begun fits = go (goesOn value byte) refl (λ front′ value′. goes front′ value′ (at + 1) s)
@@ -77,7 +77,7 @@ goes front value at (byte ∷ s) begun fits = go (goesOn value byte) refl (λ fr
           rest = g .rest;
           result = g .result;
           cut = ap (λ (l : List ℕ). byte ∷ l) (g .cut);
-          read = simp e (g .read ∙ ap (fieldIs (g .result)) place);
+          read = simp e (g .read ∙ ap (goodField (g .result)) place);
           is-number = rw append-assoc at (g .is-number);
         }
     go false e next =
@@ -86,7 +86,7 @@ goes front value at (byte ∷ s) begun fits = go (goesOn value byte) refl (λ fr
           rest = byte ∷ s;
           result = value;
           cut = refl;
-          read = simp e (ap (fieldIs value) (sym (add-zero at)));
+          read = simp e (ap (goodField value) (sym (add-zero at)));
           is-number = rw (append-nil front) (begun, fits);
         }
 
@@ -96,7 +96,7 @@ pub record Begins (at : ℕ) (s : List ℕ) : Type 0 where
   pub rest : List ℕ
   pub value : ℕ
   pub cut : s ≡ text ++ rest
-  pub read : firstNumber at s ≡ fieldIs value (at + length text)
+  pub read : firstNumber at s ≡ goodField value (at + length text)
   pub is-number : IsNumber text value
 
 pub begins : (at : ℕ) (s : List ℕ) → firstNumber at s .wanted ≡ nothing → Begins at s
@@ -116,7 +116,7 @@ begins at (byte ∷ s) h = go (isFigure byte) refl
           rest = g .rest;
           value = g .result;
           cut = ap (λ (l : List ℕ). byte ∷ l) (g .cut);
-          read = simp e (g .read ∙ ap (fieldIs (g .result)) place);
+          read = simp e (g .read ∙ ap (goodField (g .result)) place);
           is-number = g .is-number;
         }
     go false e = let no : number ≡ nothing = simp e at h in absurd (omega arith)

@@ -8,7 +8,7 @@ use lib.ListN.{length}
 use Rattle.same.proofs.Tests.{both}
 use Rattle.rules.specs.Rules.{obeys}
 use Rattle.lines.specs.declared.Entry.{Entry}
-use Rattle.sheet_promises.specs.Grammar.{IsDigest, IsLine, Lines, line, Obeys, AllObey, entry}
+use Rattle.sheet_promises.specs.Grammar.{IsDigest, IsLine, Lines, line, ObeysRules, AllObey, entry}
 use Rattle.sheet_promises.specs.Promises.{Among, first, further}
 use Rattle.sheet_promises.proofs.Digests.{two-a-byte}
 
@@ -16,7 +16,7 @@ digest-size : (text : List ℕ) (e : Entry) → IsLine text e → length (e .sam
 unfolding IsDigest
 digest-size text e l = omega (arith, two-a-byte (l .digest) (e .sample .digest) (l .is-digest .0), l .is-digest .1)
 
-pub record-obeys : (last : ℕ) (e : Entry) → Obeys last e → obeys (e .sample) ≡ true
+pub record-obeys : (last : ℕ) (e : Entry) → ObeysRules last e → obeys (e .sample) ≡ true
 unfolding obeys
 record-obeys last e o = both _ _ (o .length-rule) (o .loop-rule)
 

@@ -9,11 +9,11 @@ use Rattle.sheet.specs.Judging.{entryNumber}
 use Rattle.lines.specs.declared.Entry.{Entry}
 use Rattle.lines.proofs.Tests.{either}
 use Rattle.sheet.proofs.Verdicts.{entry-note, entry-length, entry-loop, entry-good}
-use Rattle.sheet_promises.specs.Grammar.{Obeys}
+use Rattle.sheet_promises.specs.Grammar.{ObeysRules}
 use Rattle.sheet_promises.specs.Faults.{Breaks, note, bytes, loop}
 
 -- a line that obeys the rules is accepted
-pub obeys-number : (last : ℕ) (e : Entry) → Obeys last e → entryNumber last e ≡ accepted
+pub obeys-number : (last : ℕ) (e : Entry) → ObeysRules last e → entryNumber last e ≡ accepted
 obeys-number last e o = entry-good last e (o .note-rule) (o .length-rule) (o .loop-rule)
 
 -- one that breaks a rule has the rule's number
@@ -28,7 +28,7 @@ breaks-refused last e number (bytes good bad) h = omega arith
 breaks-refused last e number (loop good long bad) h = omega arith
 
 -- and every line does one or the other
-pub obeys-or-breaks : (last : ℕ) (e : Entry) → Obeys last e ⊎ Breaks last e (entryNumber last e)
+pub obeys-or-breaks : (last : ℕ) (e : Entry) → ObeysRules last e ⊎ Breaks last e (entryNumber last e)
 obeys-or-breaks last e =
     ⊎-elim
     (λ n.

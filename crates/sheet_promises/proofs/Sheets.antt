@@ -11,8 +11,8 @@ use lib.ListN.{length, drop}
 use lib.Seq.{drop-append-seam}
 use Rattle.refusal.specs.Table.{accepted, form, count-or-note}
 use Rattle.rules.specs.Rules.{countRule}
-use Rattle.lines.specs.Reading.{nothing, fieldIs, headerLine}
-use Rattle.sheet.specs.Judging.{badLine, judgedNotes, judged, entriesAt}
+use Rattle.lines.specs.Reading.{nothing, goodField, headerLine}
+use Rattle.sheet.specs.Judging.{verdictAt, judgedNotes, judged, entriesAt}
 use Rattle.lines.specs.declared.Field.{Field}
 use Rattle.lines.specs.declared.Entry.{Entry}
 use Rattle.lines.proofs.Tests.{either}
@@ -24,37 +24,37 @@ use Rattle.sheet_promises.proofs.Notes.{all-good, entries-read, first-b
 
 -- a header that the text begins with, and the lines behind it
 module _ (text front rest : List ℕ) (n : ℕ) (h : IsHeader front n) (cut : text ≡ front ++ rest) where
-  read : fieldIs n (length front) ≡ headerLine text
+  read : goodField n (length front) ≡ headerLine text
   read = sym (header-read text front rest n h cut)
 
   pub lines-behind : drop (length front) text ≡ rest
   lines-behind = ap (drop (length front)) cut ∙ drop-append-seam front rest
 
-  pub bad-count : countRule n ≡ false → judged text ≡ badLine count-or-note 1
-  unfolding fieldIs
+  pub bad-count : countRule n ≡ false → judged text ≡ verdictAt count-or-note 1
+  unfolding goodField
   bad-count bad =
-      sym (header-decides text (fieldIs n (length front)) count-or-note read
-      (sym (header-bad (fieldIs n (length front)) refl bad)) (λ e. omega arith))
+      sym (header-decides text (goodField n (length front)) count-or-note read
+      (sym (header-bad (goodField n (length front)) refl bad)) (λ e. omega arith))
 
   pub count-passes : countRule n ≡ true → judged text ≡ judgedNotes n text (length front) 2 0
-  unfolding fieldIs
+  unfolding goodField
   count-passes good =
-      notes-decide text (fieldIs n (length front)) accepted read (sym (header-good (fieldIs n (length front)) refl good)) refl
+      notes-decide text (goodField n (length front)) accepted read (sym (header-good (goodField n (length front)) refl good)) refl
 
 -- a sheet is accepted, and its entries are those that are read
-pub sheet-accepted : (text : List ℕ) (es : List Entry) → IsSheet text es → judged text ≡ badLine accepted 0
+pub sheet-accepted : (text : List ℕ) (es : List Entry) → IsSheet text es → judged text ≡ verdictAt accepted 0
 sheet-accepted text es s =
     count-passes text (s .header) (s .lines) (length es) (s .is-header) (s .whole) (s .count-rule)
     ∙ all-good text (s .lines) es (length (s .header)) 2 0 (s .are-lines) (s .obeyed) (lines-behind text (s .header) (s .lines) (length es) (s .is-header) (s .whole))
 
 pub sheet-entries : (text : List ℕ) (es : List Entry) → IsSheet text es → entriesAt (headerLine text .value) text (headerLine text .at) ≡ es
-unfolding fieldIs
+unfolding goodField
 sheet-entries text es s =
     rw (header-read text (s .header) (s .lines) (length es) (s .is-header) (s .whole))
     (entries-read text (s .lines) es (length (s .header)) (s .are-lines) (lines-behind text (s .header) (s .lines) (length es) (s .is-header) (s .whole)))
 
 -- a text with a first bad line is refused by it
-pub bad-refused : (text : List ℕ) (number line : ℕ) → Refused text number line → judged text ≡ badLine number line
+pub bad-refused : (text : List ℕ) (number line : ℕ) → Refused text number line → judged text ≡ verdictAt number line
 bad-refused text number line (no-header none) =
     sym (header-decides text (headerLine text) form refl
     (sym (header-ill (headerLine text) (λ well. let s = header-stands text well in none (s .piece) _ _ (s .is-header) (s .cut)))) (λ e. omega arith))
@@ -74,11 +74,11 @@ Answered text = ((es : List Entry) × IsSheet text es) ⊎ Refused text (judged 
 
 module _ (text : List ℕ) where
   refuse : (number line : ℕ) → Refused text number line → Answered text
-  unfolding badLine
+  unfolding verdictAt
   refuse number line r = inr (rw (bad-refused text number line r) r)
 
   unread : (headerLine text .wanted ≡ nothing → ⊥) → Answered text
-  unfolding fieldIs
+  unfolding goodField
   unread ill =
       refuse form 1 (no-header (λ front rest n h cut. ill (ap (λ (f : Field). f .wanted) (header-read text front rest n h cut))))
 

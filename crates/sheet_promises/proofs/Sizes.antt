@@ -8,7 +8,7 @@ use native.Mathlib.Decide.{decLt}
 use lib.ListN.{length, length-append}
 use Rattle.rules.proofs.Rules.{count-rule-is, note-rule-is}
 use Rattle.lines.specs.declared.Entry.{Entry}
-use Rattle.sheet_promises.specs.Grammar.{Decimal, figure, longer, IsNumber, IsDigest, IsField, IsHeader, IsLine, Lines, no-line, line, Obeys, AllObey, no-entry, entry, IsSheet}
+use Rattle.sheet_promises.specs.Grammar.{Decimal, figure, longer, IsNumber, IsDigest, IsField, IsHeader, IsLine, Lines, no-line, line, ObeysRules, AllObey, no-entry, entry, IsSheet}
 
 -- a number below a power of ten has as many figures at most
 figures-most : (n : ℕ) (text : List ℕ) (value : ℕ) → Decimal text value → value < 10 ^ suc n → length text ≤ suc n

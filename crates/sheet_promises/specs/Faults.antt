@@ -7,7 +7,7 @@ use mathlib.Core.Bool.{true, false}
 use Rattle.refusal.specs.Table.{form, count-or-note, bad-length, bad-loop}
 use Rattle.rules.specs.Rules.{countRule, noteRule, lengthRule, loopRule}
 use Rattle.lines.specs.declared.Entry.{Entry}
-use Rattle.sheet_promises.specs.Grammar.{IsHeader, IsLine, Obeys}
+use Rattle.sheet_promises.specs.Grammar.{IsHeader, IsLine, ObeysRules}
 
 -- a well-formed line that breaks a rule, and none before it
 pub data Breaks (last : ℕ) (e : Entry) : ℕ → Type 0 where
@@ -24,7 +24,7 @@ pub data BadLine (last : ℕ) (text : List ℕ) : ℕ → Type 0 where
 -- the first bad line of a text that begins at a line's number, with so many notes to come, after a note
 pub data FirstBad : ℕ → ℕ → ℕ → List ℕ → ℕ → ℕ → Type 0 where
   here : {line notes last number : ℕ} {text : List ℕ} → BadLine last text number → FirstBad line (suc notes) last text number line
-  later : {line notes last number bad : ℕ} {text front rest : List ℕ} {e : Entry} → IsLine front e → text ≡ front ++ rest → Obeys last e
+  later : {line notes last number bad : ℕ} {text front rest : List ℕ} {e : Entry} → IsLine front e → text ≡ front ++ rest → ObeysRules last e
       → FirstBad (line + 1) notes (e .note) rest number bad → FirstBad line (suc notes) last text number bad
   -- "Text after the n notes is a form fault at line n + 2"
   follows : {line last byte : ℕ} {rest : List ℕ} → FirstBad line 0 last (byte ∷ rest) form line

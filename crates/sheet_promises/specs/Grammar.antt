@@ -59,7 +59,7 @@ pub data Lines : List ℕ → List Entry → Type 0 where
   line : {text rest : List ℕ} {e : Entry} {es : List Entry} → IsLine text e → Lines rest es → Lines (text ++ rest) (e ∷ es)
 
 -- a line's numbers obey rules 2 to 4, after a note or after 0
-pub record Obeys (last : ℕ) (e : Entry) : Type 0 where
+pub record ObeysRules (last : ℕ) (e : Entry) : Type 0 where
   pub note-rule : noteRule last (e .note) ≡ true
   pub length-rule : lengthRule (e .sample .length) ≡ true
   pub loop-rule : loopRule (e .sample .length) (e .sample .start) (e .sample .end) ≡ true
@@ -67,9 +67,9 @@ pub record Obeys (last : ℕ) (e : Entry) : Type 0 where
 -- every line obeys the rules, after a note
 pub data AllObey : ℕ → List Entry → Type 0 where
   no-entry : {last : ℕ} → AllObey last []
-  entry : {last : ℕ} {e : Entry} {es : List Entry} → Obeys last e → AllObey (e .note) es → AllObey last (e ∷ es)
+  entry : {last : ℕ} {e : Entry} {es : List Entry} → ObeysRules last e → AllObey (e .note) es → AllObey last (e ∷ es)
 
--- a sheet: line 1, "n, 1..32", "then n lines", "Nothing follows"
+-- a sheet: line 1, "n, 1..32", "Then n lines", "Nothing follows"
 pub record IsSheet (text : List ℕ) (es : List Entry) : Type 0 where
   pub header : List ℕ
   pub lines : List ℕ

@@ -1,14 +1,14 @@
 -- What the reader promises of every text: document 01, "The rank sheet".
-use Prim.Native.Nat.{ℕ, _≤_}
+use Prim.Native.Nat.{ℕ, _+_, _≤_}
 use mathlib.Core.Path.{_≡_}
 use mathlib.Core.Logic.{_↔_}
-use mathlib.Core.List.{List, _∷_}
+use mathlib.Core.List.{List, _∷_, _++_}
 use lib.ListN.{length}
-use Rattle.refusal.specs.Table.{accepted}
+use Rattle.refusal.specs.Table.{accepted, form}
 use Rattle.session.specs.Slots.{emptySlot, waitingSlot, emptySession}
 use Rattle.session.specs.Deliver.{slotOf}
 use Rattle.session.specs.declared.Session.{Session}
-use Rattle.sheet.specs.Judging.{sheetOf}
+use Rattle.sheet.specs.Judging.{judged, sheetOf}
 use Rattle.lines.specs.declared.Entry.{Entry}
 use Rattle.sheet_promises.specs.Grammar.{IsNumber, IsSheet}
 use Rattle.sheet_promises.specs.Faults.{Refused}
@@ -30,9 +30,16 @@ pub record Promises : Type 0 where
   -- "an accepted sheet's line is 0"
   pub line : (text : List ℕ) → sheetOf text .no ≡ accepted → sheetOf text .line ≡ 0
   pub lists : (text : List ℕ) (es : List Entry) → IsSheet text es → Lists (sheetOf text .session) es
+  -- and no other session does
+  pub one-session : (s t : Session) (es : List Entry) → Lists s es → Lists t es → s ≡ t
   -- refused exactly by the first bad line: its number and its line
   pub refuses : (text : List ℕ) (number line : ℕ)
       → ((sheetOf text .no ≡ number) × (sheetOf text .line ≡ line) × (number ≡ accepted → ⊥)) ↔ Refused text number line
+  -- "Text after the n notes is a form fault at line n + 2"
+  pub follows : (text : List ℕ) (es : List Entry) → IsSheet text es → (byte : ℕ) (rest : List ℕ)
+      → judged (text ++ (byte ∷ rest)) ≡ record { no = form; line = length es + 2 }
+  -- what the lines are judged to is what the sheet answers
+  pub verdict : (text : List ℕ) → judged text ≡ record { no = sheetOf text .no; line = sheetOf text .line }
   -- "session with no note listed"
   pub refused : (text : List ℕ) → (sheetOf text .no ≡ accepted → ⊥) → sheetOf text .session ≡ emptySession
   -- "a valid sheet has at most 3,233" bytes

@@ -4,7 +4,7 @@ use Prim.Native.Nat.{_≤_, _-_}
 use mathlib.Core.Path.{_≡_, refl, sym, _∙_}
 use native.Mathlib.Omega.{arith}
 use lib.ListN.{length, take}
-use Rattle.lines.specs.Reading.{digestAt, digestFrom, digestIs}
+use Rattle.lines.specs.Reading.{digestAt, digestFrom, goodDigest}
 use Rattle.lines.proofs.Digests.{found-before, no-high, no-low, one-byte, all-bytes}
 use borrow.Author.Needs.{needs}
 use Rattle.lines.proofs.digest_at.Statement.{statement}
@@ -54,7 +54,7 @@ loop-again c = (
 )
 
 returns-3 : tie.Need-returns-3 Inv-loop μ-loop
-unfolding digestIs
+unfolding goodDigest
 returns-3 c = sym (c .before .loop .inv .2 ∙ all-bytes _ _ _ _ (c .loop-test .left) (c .before .loop .inv .0) (c .before .loop .inv .1))
 
 pub digest-at-spec : {M : Type 1} → statement M

@@ -10,12 +10,12 @@ use Rattle.lines.proofs.field_at.Tie as tie
 returns : tie.Need-returns
 returns c = field-none _ _ _ _ (c .before .before .number-at .ensures) (c .if1 .taken)
 
-add-field-is : tie.Need-add-field-is
-add-field-is c = omega (arith, has-below _ _ _ (sym (c .before .has-at .ensures) ∙ c .if2 .taken))
+add-good-field : tie.Need-add-good-field
+add-good-field c = omega (arith, has-below _ _ _ (sym (c .before .has-at .ensures) ∙ c .if2 .taken))
 
 returns-2 : tie.Need-returns-2
 returns-2 c =
-    c .field-is .ensures ∙ field-closed _ _ _ _ (c .before .before .before .before .before .number-at .ensures) (c .before .before .before .if1 .left) (sym (c .before .before .has-at .ensures) ∙ c .before .if2 .taken)
+    c .good-field .ensures ∙ field-closed _ _ _ _ (c .before .before .before .before .before .number-at .ensures) (c .before .before .before .if1 .left) (sym (c .before .before .has-at .ensures) ∙ c .before .if2 .taken)
 
 returns-3 : tie.Need-returns-3
 returns-3 c =
@@ -28,7 +28,7 @@ field-at-spec =
     (λ c κs. search needs)
     returns
     (λ c κs. search needs)
-    add-field-is
+    add-good-field
     (λ c κs. search needs)
     (λ c κs. search needs)
     returns-2

@@ -1,6 +1,6 @@
 -- `note_line` reads a note line. Assumes nothing.
 use mathlib.Core.Path.{_∙_}
-use Rattle.lines.specs.Reading.{lineIs}
+use Rattle.lines.specs.Reading.{goodLine}
 use Rattle.lines.proofs.Lines.{no-note, no-length, no-start, no-end, no-digest, no-close, whole-line}
 use borrow.Author.Needs.{needs}
 use Rattle.lines.proofs.note_line.Statement.{statement}
@@ -33,7 +33,7 @@ returns-6 c =
     ∙ no-close _ _ _ (c .before .before .before .before .before .before .before .before .before .before .before .before .before .before .before .before .before .before .field-at .ensures) (c .before .before .before .before .before .before .before .before .before .before .before .before .before .before .before .before .if1 .left) _ (c .before .before .before .before .before .before .before .before .before .before .before .before .before .before .before .field-at2 .ensures) (c .before .before .before .before .before .before .before .before .before .before .before .before .before .if2 .left) _ (c .before .before .before .before .before .before .before .before .before .before .before .before .field-at3 .ensures) (c .before .before .before .before .before .before .before .before .before .before .if3 .left) _ (c .before .before .before .before .before .before .before .before .before .field-at4 .ensures) (c .before .before .before .before .before .before .before .if4 .left) _ (c .before .before .before .before .before .before .digest-at .ensures) (c .before .before .before .before .if5 .left) _ (c .before .before .before .mark-at .ensures) (c .before .if6 .taken)
 
 returns-7 : tie.Need-returns-7
-unfolding lineIs
+unfolding goodLine
 returns-7 c =
     whole-line _ _ _ (c .before .before .before .before .before .before .before .before .before .before .before .before .before .before .before .before .before .before .field-at .ensures) (c .before .before .before .before .before .before .before .before .before .before .before .before .before .before .before .before .if1 .left) _ (c .before .before .before .before .before .before .before .before .before .before .before .before .before .before .before .field-at2 .ensures) (c .before .before .before .before .before .before .before .before .before .before .before .before .before .if2 .left) _ (c .before .before .before .before .before .before .before .before .before .before .before .before .field-at3 .ensures) (c .before .before .before .before .before .before .before .before .before .before .if3 .left) _ (c .before .before .before .before .before .before .before .before .before .field-at4 .ensures) (c .before .before .before .before .before .before .before .if4 .left) _ (c .before .before .before .before .before .before .digest-at .ensures) (c .before .before .before .before .if5 .left) _ (c .before .before .before .mark-at .ensures) (c .before .if6 .left)
 

@@ -35,7 +35,7 @@ loop-holds c = (search needs, number-begins _ _ (c .before .before .before .if1 
 
 returns-3 : tie.Need-returns-3 Inv-loop μ-loop
 returns-3 c =
-    c .field-is .ensures
+    c .good-field .ensures
     ∙ sym (c .before .before .before .before .before .loop .inv .1 ∙ figures-stop _ _ _ (c .before .before .before .before .loop-test .taken) (refuted (c .before .before .goes-on .ensures) (c .before .if3 .taken)))
 
 mul-value : tie.Need-mul-value Inv-loop μ-loop
@@ -57,7 +57,7 @@ loop-again c = (
 )
 
 returns-4 : tie.Need-returns-4 Inv-loop μ-loop
-returns-4 c = c .field-is2 .ensures ∙ sym (c .before .before .loop .inv .1 ∙ figures-end _ _ _ (c .before .loop-test .left))
+returns-4 c = c .good-field2 .ensures ∙ sym (c .before .before .loop .inv .1 ∙ figures-end _ _ _ (c .before .loop-test .left))
 
 pub number-at-spec : {M : Type 1} → statement M
 number-at-spec =

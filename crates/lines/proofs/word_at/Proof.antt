@@ -35,7 +35,7 @@ loop-again c =
     (search needs, c .before .before .before .before .loop .inv .1 ∙ word-more _ _ _ _ _ (c .before .before .before .loop-test .taken) (confirmed (c .before .has-at .ensures) (c .if1 .left)))
 
 returns-2 : tie.Need-returns-2 Inv-loop μ-loop
-returns-2 c = c .field-is .ensures ∙ sym (c .before .before .loop .inv .1 ∙ word-done _ _ _ _ _ (c .before .loop-test .left))
+returns-2 c = c .good-field .ensures ∙ sym (c .before .before .loop .inv .1 ∙ word-done _ _ _ _ _ (c .before .loop-test .left))
 
 pub word-at-spec : {M : Type 1} → statement M
 word-at-spec =

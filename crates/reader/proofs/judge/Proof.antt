@@ -20,11 +20,11 @@ use Rattle.walks.proofs.Ends.{ends, stands}
 use Rattle.sheet.specs.Judging.{judged}
 use Rattle.sheet.specs.declared.Verdict.{Verdict}
 use Rattle.reader.specs.Reader.{beginOf, moved, headerRead, lineRead}
-use Rattle.reader.specs.Judging.{afterHeader, afterLine, atEnd}
+use Rattle.reader.specs.Progress.{afterHeader, afterLine, atEnd}
 use Rattle.reader.specs.declared.SheetReader.{SheetReader}
 use Rattle.reader.specs.declared.NumberRead.{NumberRead}
 use Rattle.reader.specs.declared.LineRead.{LineRead}
-use Rattle.reader.specs.declared.Judging.{Judging}
+use Rattle.reader.specs.declared.Progress.{Progress}
 use Rattle.reader.proofs.Structs.{Judged, Sofar, Line, Number}
 use Rattle.reader.proofs.Holding.{typeAt, lawsAt, sliceOf, machineOf, OwnReader, IsReader, reader-typed}
 use Rattle.reader.proofs.Lines.{toCome, Sound, after-header, after-line, at-end, header-sound, line-sound, line-fewer}
@@ -72,14 +72,14 @@ stayed = (stay-none-slice (0 ∷ []) tt (plain (λ _. u8)) yes, tt)
 -- the loop, over the text
 module _ (s : RefT (List ℕ)) where
   -- the reader holds the text, and what is known and what is to come from its place make the verdict
-  abbrev Going : SheetReader × Judging → Type 0
+  abbrev Going : SheetReader × Progress → Type 0
   Going x = (x .0 .text ≡ s) × (toCome (s .now) (x .0 .at) (x .1) ≡ judged (s .now)) × Sound (x .1)
 
-  begun : (b : SheetReader) (h : NumberRead) (j : Judging) → b ≡ beginOf s → h ≡ headerRead b → j ≡ afterHeader (h .field) → Going (h .rest, j)
+  begun : (b : SheetReader) (h : NumberRead) (j : Progress) → b ≡ beginOf s → h ≡ headerRead b → j ≡ afterHeader (h .field) → Going (h .rest, j)
   unfolding beginOf headerRead moved
   begun b h j eb eh ej = rw (ej, eh, eb) (refl, after-header (s .now), header-sound _)
 
-  module _ (x : SheetReader × Judging) (f : Going x) (more : not (eqb (x .1 .left) 0) ≡ true) where
+  module _ (x : SheetReader × Progress) (f : Going x) (more : not (eqb (x .1 .left) 0) ≡ true) where
     some-left : 1 ≤ x .1 .left
     some-left = go (eqb (x .1 .left) 0) refl
       where
@@ -90,14 +90,14 @@ module _ (s : RefT (List ℕ)) where
     allowed : (1 ≤ x .1 .left) × (x .1 .line + 1 < 2 ^ 32)
     allowed = let l = some-left in (l, omega (arith, f .2 .1))
 
-    goes-on : (l : LineRead) (k : Judging) → l ≡ lineRead (x .0) → k ≡ afterLine (x .1) (l .line) → Going (l .rest, k)
+    goes-on : (l : LineRead) (k : Progress) → l ≡ lineRead (x .0) → k ≡ afterLine (x .1) (l .line) → Going (l .rest, k)
     unfolding lineRead moved
     goes-on l k el ek = rw (ek, el) (f .0, rw (f .0) (after-line (s .now) (x .0 .at) (x .1) some-left (f .2 .0 some-left) ∙ f .1), line-sound (x .1) _ some-left (f .2))
 
-    fewer : (l : LineRead) (k : Judging) → k ≡ afterLine (x .1) (l .line) → k .left < x .1 .left
+    fewer : (l : LineRead) (k : Progress) → k ≡ afterLine (x .1) (l .line) → k .left < x .1 .left
     fewer l k ek = rw ek (line-fewer (x .1) (l .line) some-left (f .2))
 
-  judges : (x : SheetReader × Judging) → Going x → not (eqb (x .1 .left) 0) ≡ false → (n : ℕ) (v : Verdict) → n ≡ x .0 .at → v ≡ atEnd (x .1) n (length (s .now)) → v ≡ judged (s .now)
+  judges : (x : SheetReader × Progress) → Going x → not (eqb (x .1 .left) 0) ≡ false → (n : ℕ) (v : Verdict) → n ≡ x .0 .at → v ≡ atEnd (x .1) n (length (s .now)) → v ≡ judged (s .now)
   judges x f over n v en ev = go (eqb (x .1 .left) 0) refl
     where
       go : (b : Bool) → eqb (x .1 .left) 0 ≡ b → v ≡ judged (s .now)
@@ -135,11 +135,11 @@ module _ {M : Type 1} (𝓤 : URA M) (H : Heap 𝓤) (A : Atoms 𝓤) (W : Given
   text-fits p = shr-slice-lawful 𝓤 H A W (named 0) (κs .0) u8 .typed s (sliceOf s ∷ []) p .0 .1 .1 .0 .fits
 
   -- t lines are left
-  abbrev Left : ℕ → SheetReader × Judging → Type 0
+  abbrev Left : ℕ → SheetReader × Progress → Type 0
   Left t x = (x .1 .left ≡ t) × Going s x × (IsReader α (x .0) × IsData Sofar (x .1))
 
   -- what a turn changes: the reader and what is known in their locals, and what the reader owns
-  abbrev There : ℕ → ℕ → SheetReader × Judging → Item 𝓤
+  abbrev There : ℕ → ℕ → SheetReader × Progress → Item 𝓤
   There l l′ x = ‵ (fat fullShare (T′.mir erased) l 0 (machineOf (x .0))) ⊛ (‵ (fat fullShare (mirOf Sofar) l′ 0 (machine Sofar (x .1))) ⊛ ‵ (OwnReader α (x .0)))
 
   abbrev Begin : Contract 𝓤

@@ -5,7 +5,7 @@ use Rattle.session.proofs.as_it_stands.Statement.{statement}
 use Rattle.session.proofs.as_it_stands.Tie as tie
 
 returns : tie.Need-returns
-returns c = stands _ _ _ (c .taken-of .ensures)
+returns c = stands _ _ _ (c .bytes-taken .ensures)
 
 pub as-it-stands-spec : {M : Type 1} → statement M
 as-it-stands-spec = tie.close (tie.spec (λ c κs. search needs) returns)

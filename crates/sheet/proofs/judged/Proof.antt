@@ -16,17 +16,17 @@ abbrev μ-loop : tie.MeasureT-loop
 μ-loop text first count at₀ last₀ i₀ at last i = count - i
 
 returns : tie.Need-returns Inv-loop μ-loop
-returns c = c .bad-line .ensures ∙ header-decides _ _ _ (c .before .before .before .header-line .ensures) (c .before .before .header-number .ensures) (c .before .if1 .taken)
+returns c = c .verdict-at .ensures ∙ header-decides _ _ _ (c .before .before .before .header-line .ensures) (c .before .before .header-number .ensures) (c .before .if1 .taken)
 
 loop-holds : tie.Need-loop-holds Inv-loop μ-loop
 loop-holds c = (search needs, none-yet _ _ _ (c .before .before .header-line .ensures) (c .before .header-number .ensures) (c .if1 .left))
 
-add-bad-line : tie.Need-add-bad-line Inv-loop μ-loop
-add-bad-line c = omega (arith, most-notes _ _ (c .before .before .before .before .before .before .header-number .ensures) (c .before .before .before .before .before .if1 .left))
+add-verdict-at : tie.Need-add-verdict-at Inv-loop μ-loop
+add-verdict-at c = omega (arith, most-notes _ _ (c .before .before .before .before .before .before .header-number .ensures) (c .before .before .before .before .before .if1 .left))
 
 returns-2 : tie.Need-returns-2 Inv-loop μ-loop
 returns-2 c =
-    c .bad-line2 .ensures
+    c .verdict-at2 .ensures
     ∙ sym (c .before .before .before .before .before .loop .inv .1
     ∙ this-of-many _ _ _ _ _ (c .before .before .before .before .loop-test .taken) _ (c .before .before .before .note-line .ensures) _ (c .before .before .note-number .ensures) (c .before .if2 .taken))
 
@@ -37,14 +37,14 @@ loop-again c = (
       ∙ rest-of-many _ _ _ _ _ (c .before .before .before .before .loop-test .taken) _ (c .before .before .before .note-line .ensures) _ (c .before .before .note-number .ensures) (c .before .if2 .left),
 )
 
-add-bad-line-2 : tie.Need-add-bad-line-2 Inv-loop μ-loop
-add-bad-line-2 c = omega (arith, most-notes _ _ (c .before .before .before .before .header-number .ensures) (c .before .before .before .if1 .left))
+add-verdict-at-2 : tie.Need-add-verdict-at-2 Inv-loop μ-loop
+add-verdict-at-2 c = omega (arith, most-notes _ _ (c .before .before .before .before .header-number .ensures) (c .before .before .before .if1 .left))
 
 returns-3 : tie.Need-returns-3 Inv-loop μ-loop
-returns-3 c = c .bad-line3 .ensures ∙ sym (c .before .before .before .loop .inv .1 ∙ text-after-all _ _ _ _ _ (c .before .before .loop-test .left) (c .before .if3 .taken))
+returns-3 c = c .verdict-at3 .ensures ∙ sym (c .before .before .before .loop .inv .1 ∙ text-after-all _ _ _ _ _ (c .before .before .loop-test .left) (c .before .if3 .taken))
 
 returns-4 : tie.Need-returns-4 Inv-loop μ-loop
-returns-4 c = c .bad-line4 .ensures ∙ sym (c .before .before .before .loop .inv .1 ∙ end-after-all _ _ _ _ _ (c .before .before .loop-test .left) (c .before .if3 .left))
+returns-4 c = c .verdict-at4 .ensures ∙ sym (c .before .before .before .loop .inv .1 ∙ end-after-all _ _ _ _ _ (c .before .before .loop-test .left) (c .before .if3 .left))
 
 pub judged-spec : {M : Type 1} → statement M
 judged-spec =
@@ -59,13 +59,13 @@ judged-spec =
     loop-holds
     (λ c κs. search needs)
     (λ c κs. search needs)
-    add-bad-line
+    add-verdict-at
     (λ c κs. search needs)
     returns-2
     (λ c. search needs)
     (λ c. search needs)
     loop-again
-    add-bad-line-2
+    add-verdict-at-2
     (λ c κs. search needs)
     returns-3
     (λ c κs. search needs)

@@ -3,24 +3,24 @@ use Prim.Native.Nat.{ℕ, _+_, _-_}
 use mathlib.Core.Bool.{cond}
 use lib.Dec.{ltb, eqb}
 use Rattle.refusal.specs.Table.{accepted, form}
-use Rattle.sheet.specs.Judging.{headerNumber, noteNumber, badLine, allGood}
+use Rattle.sheet.specs.Judging.{headerNumber, noteNumber, verdictAt, allGood}
 use Rattle.lines.specs.declared.Field.{Field}
 use Rattle.lines.specs.declared.NoteLine.{NoteLine}
 use Rattle.sheet.specs.declared.Verdict.{Verdict}
-use Rattle.reader.specs.declared.Judging.{Judging}
+use Rattle.reader.specs.declared.Progress.{Progress}
 
 -- a bad line: none of the note lines is left
-unfoldable pub bad : ℕ → ℕ → ℕ → Judging
+unfoldable pub bad : ℕ → ℕ → ℕ → Progress
 bad number last line = record { no = number; last = last; left = 0; line = line }
 
-unfoldable pub afterHeader : Field → Judging
+unfoldable pub afterHeader : Field → Progress
 afterHeader h = cond (eqb (headerNumber h) accepted) (record { no = accepted; last = 0; left = h .value; line = 2 }) (bad (headerNumber h) 0 1)
 
-unfoldable pub afterLine : Judging → NoteLine → Judging
+unfoldable pub afterLine : Progress → NoteLine → Progress
 afterLine j l =
     let number = noteNumber (j .last) l in
     cond (eqb number accepted) (record { no = accepted; last = l .entry .note; left = j .left - 1; line = j .line + 1 }) (bad number (j .last) (j .line))
 
 -- "Nothing follows": where the reader stands, and how long the text is
-unfoldable pub atEnd : Judging → ℕ → ℕ → Verdict
-atEnd j at end = cond (eqb (j .no) accepted) (cond (ltb at end) (badLine form (j .line)) allGood) (badLine (j .no) (j .line))
+unfoldable pub atEnd : Progress → ℕ → ℕ → Verdict
+atEnd j at end = cond (eqb (j .no) accepted) (cond (ltb at end) (verdictAt form (j .line)) allGood) (verdictAt (j .no) (j .line))
