@@ -2,7 +2,7 @@
 //! each note.
 
 use crate::session::{Session, NONE, NOTES, OPEN, SHUT, WAITING};
-use crate::sheet;
+use crate::sheet::{self, Sheet};
 use std::fs::File;
 use std::io::{ErrorKind, Read};
 use std::path::Path;
@@ -15,7 +15,7 @@ pub fn load(folder: &Path) -> Vec<u8> {
     let text = read_text(&folder.join("rank.txt"));
     let sheet = sheet::read(&text);
     if sheet.number != 0 {
-        return format!("refused\t{}\t{}\n", sheet.number, sheet.line).into_bytes();
+        return refused(&sheet);
     }
     let mut session = sheet.session;
     let mut printed = String::new();
@@ -29,6 +29,11 @@ pub fn load(folder: &Path) -> Vec<u8> {
         printed.push_str(&format!("{note}\t{said}\t{}\n", answer.taken));
     }
     printed.into_bytes()
+}
+
+/// The one line that is printed for a refused sheet.
+pub fn refused(sheet: &Sheet) -> Vec<u8> {
+    format!("refused\t{}\t{}\n", sheet.number, sheet.line).into_bytes()
 }
 
 fn word(status: u8) -> &'static str {

@@ -30,7 +30,7 @@ fn main() {
     case(b"form-no-last-line-end", b"form-no-last-line-end/");
     case(b"form-text-after-the-sheet", b"form-text-after-the-sheet/");
     case(b"form-sheet-stops-early", b"form-sheet-stops-early/");
-    case(b"form-capital-digest", b"form-capital-digest/");
+    case(b"capital-digest", b"capital-digest/");
     case(b"count-33", b"count-33/");
     case(b"note-repeated", b"note-repeated/");
     case(b"note-33", b"note-33/");

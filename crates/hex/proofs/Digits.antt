@@ -53,6 +53,11 @@ digit-or-none code = go (within 0x30 0x39 code) (within 0x61 0x66 code) refl ref
         inl (omega arith, inr (omega arith, omega arith, omega arith))
     go false false ea eb = inr (simp (ea, eb))
 
+-- past a text's end a byte reads as 0, which is no digit
+pub no-byte : digitOf 0 ≡ 255
+unfolding digitOf
+no-byte = refl
+
 -- a digit stands for less than 16
 pub digit-below : (code value : ℕ) → IsDigit code value → value < 16
 unfolding IsDigit

@@ -9,8 +9,8 @@ use native.Mathlib.Omega.{arith}
 use borrow.Author.Tests.{lt-ltb, le-ltb}
 use lib.ListN.{length, getD, take, set, List·getD-eq-default}
 use lib.Seq.{take-suc-set, take-all}
-use Rattle.hex.specs.Digits.{digitOf, digits}
-use Rattle.hex.proofs.Digits.{rule}
+use Rattle.hex.specs.Digits.{digits}
+use Rattle.hex.proofs.Digits.{rule, no-byte}
 use Rattle.lines.specs.Reading.{goodDigest, digestFault, digitAt, isDigitAt, pairAt, digestFrom}
 
 -- the digit at a place by the table, and past the end
@@ -19,8 +19,8 @@ unfolding digitAt
 digit-in text table at e below = rw e (rule (getD text at 0) below)
 
 pub digit-past : (text : List ℕ) (at : ℕ) → length text ≤ at → digitAt text at ≡ 255
-unfolding digitAt digitOf
-digit-past text at h = rw (List·getD-eq-default text 0 {n = at} h)
+unfolding digitAt
+digit-past text at h = rw (List·getD-eq-default text 0 {n = at} h) no-byte
 
 -- a digit stands before the end
 pub digit-before : (text : List ℕ) (at : ℕ) → digitAt text at < 16 → at < length text

@@ -115,7 +115,7 @@ digestFrom (suc n) text at done =
     let rest = digestFrom n text (at + 2) (done ++ (pairAt text at ∷ [])) in
     cond (isDigitAt text at) (cond (isDigitAt text (at + 1)) rest (digestFault (at + 1))) (digestFault at)
 
--- "A digest is 64 characters of 0-9 and a-f"
+-- "A digest is 64 characters": digits, by the table of `hex`
 unfoldable pub digestAt : List ℕ → ℕ → DigestField
 digestAt text at = digestFrom 32 text at []
 

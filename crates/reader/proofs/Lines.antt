@@ -14,41 +14,41 @@ use Rattle.lines.specs.declared.Field.{Field}
 use Rattle.lines.specs.declared.NoteLine.{NoteLine}
 use Rattle.sheet.specs.declared.Verdict.{Verdict}
 use Rattle.sheet.proofs.Verdicts.{most-notes}
-use Rattle.reader.specs.Progress.{bad, afterHeader, afterLine, atEnd}
+use Rattle.reader.specs.Progress.{soFar, bad, afterHeader, afterLine, atEnd}
 use Rattle.reader.specs.declared.Progress.{Progress}
 
 -- the header, by cases
 module _ (h : Field) (number : ℕ) (e : number ≡ headerNumber h) where
-  pub header-good : number ≡ accepted → record { no = accepted; last = 0; left = h .value; line = 2 } ≡ afterHeader h
+  pub header-good : number ≡ accepted → soFar 0 (h .value) 2 ≡ afterHeader h
   unfolding afterHeader
   header-good good = rw (← e) (simp (eq-eqb number accepted good))
 
-  pub header-bad : (number ≡ accepted → ⊥) → record { no = number; last = 0; left = 0; line = 1 } ≡ afterHeader h
-  unfolding afterHeader bad
+  pub header-bad : (number ≡ accepted → ⊥) → bad number 0 1 ≡ afterHeader h
+  unfolding afterHeader
   header-bad ill = rw (← e) (simp (ne-eqb number accepted ill))
 
 -- a note line, by cases
 module _ (j : Progress) (l : NoteLine) (number : ℕ) (e : number ≡ noteNumber (j .last) l) where
-  pub line-good : number ≡ accepted → record { no = accepted; last = l .entry .note; left = j .left - 1; line = j .line + 1 } ≡ afterLine j l
+  pub line-good : number ≡ accepted → soFar (l .entry .note) (j .left - 1) (j .line + 1) ≡ afterLine j l
   unfolding afterLine
   line-good good = rw (← e) (simp (eq-eqb number accepted good))
 
-  pub line-bad : (number ≡ accepted → ⊥) → record { no = number; last = j .last; left = 0; line = j .line } ≡ afterLine j l
-  unfolding afterLine bad
+  pub line-bad : (number ≡ accepted → ⊥) → bad number (j .last) (j .line) ≡ afterLine j l
+  unfolding afterLine
   line-bad ill = rw (← e) (simp (ne-eqb number accepted ill))
 
 -- the end, by cases
 module _ (j : Progress) (at end : ℕ) where
-  pub ends-bad : (j .no ≡ accepted → ⊥) → record { no = j .no; line = j .line } ≡ atEnd j at end
-  unfolding atEnd verdictAt
+  pub ends-bad : (j .no ≡ accepted → ⊥) → verdictAt (j .no) (j .line) ≡ atEnd j at end
+  unfolding atEnd
   ends-bad ill = simp (ne-eqb (j .no) accepted ill)
 
-  pub ends-early : j .no ≡ accepted → at < end → record { no = form; line = j .line } ≡ atEnd j at end
-  unfolding atEnd verdictAt
+  pub ends-early : j .no ≡ accepted → at < end → verdictAt form (j .line) ≡ atEnd j at end
+  unfolding atEnd
   ends-early good l = simp (eq-eqb (j .no) accepted good, lt-ltb at end l)
 
-  pub ends-well : j .no ≡ accepted → end ≤ at → record { no = accepted; line = 0 } ≡ atEnd j at end
-  unfolding atEnd allGood
+  pub ends-well : j .no ≡ accepted → end ≤ at → allGood ≡ atEnd j at end
+  unfolding atEnd
   ends-well good l = simp (eq-eqb (j .no) accepted good, le-ltb at end l)
 
 -- the verdict that is still to come, from a place
@@ -61,7 +61,7 @@ Sound j = (1 ≤ j .left → j .no ≡ accepted) × (j .line + j .left < 2 ^ 32)
 
 module _ (text : List ℕ) where
   pub after-header : toCome text (headerLine text .at) (afterHeader (headerLine text)) ≡ judged text
-  unfolding toCome afterHeader bad judged
+  unfolding toCome afterHeader soFar bad judged
   after-header = go (eqb (headerNumber (headerLine text)) accepted) refl
     where
       go : (b : Bool) → eqb (headerNumber (headerLine text)) accepted ≡ b → toCome text (headerLine text .at) (afterHeader (headerLine text)) ≡ judged text
@@ -87,6 +87,7 @@ module _ (text : List ℕ) where
   comes-bad at j ill = simp (ne-eqb (j .no) accepted ill)
 
   pub after-line : (at : ℕ) (j : Progress) → 1 ≤ j .left → j .no ≡ accepted → toCome text (noteLine text at .at) (afterLine j (noteLine text at)) ≡ toCome text at j
+  unfolding soFar bad
   after-line at j more good = go (eqb (noteNumber (j .last) (noteLine text at)) accepted) refl
     where
       l : NoteLine
@@ -108,7 +109,7 @@ module _ (text : List ℕ) where
   at-end at j none = rw none
 
 pub header-sound : (h : Field) → Sound (afterHeader h)
-unfolding afterHeader bad
+unfolding afterHeader soFar bad
 header-sound h = go (eqb (headerNumber h) accepted) refl
   where
     go : (b : Bool) → eqb (headerNumber h) accepted ≡ b → Sound (afterHeader h)
@@ -117,7 +118,7 @@ header-sound h = go (eqb (headerNumber h) accepted) refl
 
 module _ (j : Progress) (l : NoteLine) (more : 1 ≤ j .left) (sound : Sound j) where
   pub line-sound : Sound (afterLine j l)
-  unfolding afterLine bad
+  unfolding afterLine soFar bad
   line-sound = go (eqb (noteNumber (j .last) l) accepted) refl
     where
       go : (b : Bool) → eqb (noteNumber (j .last) l) accepted ≡ b → Sound (afterLine j l)
@@ -125,7 +126,7 @@ module _ (j : Progress) (l : NoteLine) (more : 1 ≤ j .left) (sound : Sound j) 
       go false e = rw e (λ less. absurd (omega arith), omega (arith, sound .1))
 
   pub line-fewer : afterLine j l .left < j .left
-  unfolding afterLine bad
+  unfolding afterLine soFar bad
   line-fewer = go (eqb (noteNumber (j .last) l) accepted) refl
     where
       go : (b : Bool) → eqb (noteNumber (j .last) l) accepted ≡ b → afterLine j l .left < j .left

@@ -23,7 +23,7 @@ pub data Pairs : List ℕ → List ℕ → Type 0 where
   pair : {first second : ℕ} {text bytes : List ℕ} (high low : ℕ) → IsDigit first high → IsDigit second low → Pairs text bytes
       → Pairs (first ∷ second ∷ text) ((high * 16 + low) ∷ bytes)
 
--- "A digest is 64 characters of 0-9 and a-f"
+-- "A digest is 64 characters": digits, by the rule of `hex`
 unfoldable pub IsDigest : List ℕ → List ℕ → Type 0
 IsDigest text bytes = Pairs text bytes × (length text ≡ 64)
 

@@ -276,7 +276,7 @@ fn decided_unjudged(call: &Call) -> Option<String> {
     answer(&call)
 }
 
-/// `<` for `<=` at the loop's end.
+/// A loop that ends as late as it may is refused.
 fn sheet_loop_below(call: &Call) -> Option<String> {
     let Call::SheetRead { text, .. } = call else {
         return None;

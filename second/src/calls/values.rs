@@ -2,7 +2,6 @@
 
 use crate::hash::State;
 use crate::session::{Record, Session, Slot, NOTES};
-use crate::sheet::hex_value;
 
 /// A lent slice: its bytes, or only a length that no memory holds.
 #[derive(Clone, Debug, PartialEq, Eq)]
@@ -28,9 +27,12 @@ impl Lent {
     }
 }
 
+/// The digits that calls and answers are written in: these and no others,
+/// whatever a sheet may be written in.
+const DIGITS: &[u8; 16] = b"0123456789abcdef";
+
 /// Two digits a byte, and nothing for none.
 fn hex(bytes: &[u8]) -> String {
-    const DIGITS: &[u8; 16] = b"0123456789abcdef";
     let mut text = String::with_capacity(2 * bytes.len());
     for byte in bytes {
         text.push(char::from(DIGITS[usize::from(byte >> 4)]));
@@ -40,16 +42,14 @@ fn hex(bytes: &[u8]) -> String {
 }
 
 fn parse_hex(text: &str) -> Option<Vec<u8>> {
-    let digits = text.as_bytes();
-    if !digits.len().is_multiple_of(2) || digits.iter().any(|digit| hex_value(*digit) == 255) {
+    let value = |byte: u8| DIGITS.iter().position(|digit| *digit == byte);
+    let values: Option<Vec<usize>> = text.bytes().map(value).collect();
+    let values = values?;
+    if !values.len().is_multiple_of(2) {
         return None;
     }
-    let pairs = digits.chunks(2);
-    Some(
-        pairs
-            .map(|two| 16 * hex_value(two[0]) + hex_value(two[1]))
-            .collect(),
-    )
+    let pairs = values.chunks(2);
+    Some(pairs.map(|pair| (16 * pair[0] + pair[1]) as u8).collect())
 }
 
 /// Exactly so many bytes.

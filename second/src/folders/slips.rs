@@ -2,7 +2,7 @@
 //! of folders finds it. Nothing else uses them.
 
 use crate::program::PIECE;
-use crate::session::{Answer, Session, NOTES};
+use crate::session::{Answer, Record, Session, NOTES};
 use crate::sheet::{self, Sheet};
 use std::path::Path;
 
@@ -66,7 +66,7 @@ impl Slip {
         let text = std::fs::read(folder.join("rank.txt")).unwrap_or_default();
         let sheet = (self.read)(&text[..text.len().min(PIECE)]);
         if sheet.number != 0 {
-            return format!("refused\t{}\t{}\n", sheet.number, sheet.line).into_bytes();
+            return crate::program::refused(&sheet);
         }
         let mut session = sheet.session;
         let mut printed = String::new();
@@ -86,17 +86,24 @@ impl Slip {
     }
 }
 
-/// `<` for `<=` at the loop's end.
+/// A loop that ends as late as it may is refused.
 pub fn loop_below(text: &[u8]) -> Sheet {
     let mut sheet = sheet::read(text);
     let listed = sheet.session.slots.iter().filter(|slot| slot.status != 0);
     let first = listed
         .enumerate()
-        .find(|(_, slot)| slot.record.loop_end == slot.record.length / 2);
+        .find(|(_, slot)| !later_end(&slot.record).loop_allowed());
     if let Some((place, _)) = first {
         sheet = refused(4, place as u64 + 2);
     }
     sheet
+}
+
+fn later_end(record: &Record) -> Record {
+    Record {
+        loop_end: record.loop_end + 1,
+        ..*record
+    }
 }
 
 /// What fits of a refused piece is taken, and decides the note.

@@ -1,6 +1,6 @@
 //! Every way to break one line of a sheet: its form, or one of its values.
 
-use crate::making::notes::{line_text, Fields};
+use crate::making::notes::{line_text, looped, Fields};
 use crate::making::random::Random;
 use crate::session::{Record, NOTES};
 
@@ -176,20 +176,9 @@ pub fn bad_length(random: &mut Random, length: u64) -> u64 {
 
 /// A loop that rule 4 refuses.
 pub fn bad_loop(random: &mut Random, record: &Record) -> (u64, u64) {
-    let half = record.length / 2;
     let (start, end) = (record.loop_start, record.loop_end);
-    random.pick(&[
-        (end, end),
-        (start, start),
-        (end, start),
-        (0, 0),
-        (0, half + 1),
-        (start, half + 1),
-        (half, half),
-        (half, half + 1),
-        (0, record.length),
-        (0, 4294967295),
-        (4294967295, end),
-        (4294967295, 4294967295),
-    ])
+    let mut records = looped(random, record, &[start, end, record.length, 4294967295]);
+    records.retain(|record| !record.loop_allowed());
+    let bad = random.pick(&records);
+    (bad.loop_start, bad.loop_end)
 }

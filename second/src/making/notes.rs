@@ -42,22 +42,35 @@ pub fn length(random: &mut Random) -> u64 {
 
 /// A record that rules 3 and 4 allow, for a sample of this length.
 pub fn record(random: &mut Random, length: u64, digest: [u8; 32]) -> Record {
-    let half = length / 2;
-    let (loop_start, loop_end) = match random.below(4) {
-        0 => (0, half),
-        1 => (half - 1, half),
-        2 => (0, 1),
-        _ => {
-            let end = random.within(1, half);
-            (random.below(end), end)
-        }
-    };
-    Record {
+    let any = Record {
         length,
-        loop_start,
-        loop_end,
+        loop_start: 0,
+        loop_end: 0,
         digest,
+    };
+    let mut records = looped(random, &any, &[]);
+    records.retain(Record::loop_allowed);
+    random.pick(&records)
+}
+
+/// The record with many loops, of which rule 4 allows some: from and to each
+/// edge of the sample, some more frames, and a frame at random.
+pub fn looped(random: &mut Random, record: &Record, more: &[u64]) -> Vec<Record> {
+    let half = record.length / 2;
+    let any = random.within(0, half);
+    let mut frames = vec![0, 1, any, half.saturating_sub(1), half, half + 1];
+    frames.extend(more);
+    let mut records = Vec::new();
+    for loop_start in &frames {
+        for loop_end in &frames {
+            records.push(Record {
+                loop_start: *loop_start,
+                loop_end: *loop_end,
+                ..*record
+            });
+        }
     }
+    records
 }
 
 /// Some notes with records of any allowed kind.

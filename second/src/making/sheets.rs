@@ -225,8 +225,8 @@ fn long(random: &mut Random, ordinal: u64) -> Vec<u8> {
 fn longest(random: &mut Random) -> Record {
     Record {
         length: 4294967294,
-        loop_start: 2147483646,
-        loop_end: 2147483647,
+        loop_start: 2147483645,
+        loop_end: 2147483646,
         digest: random.digest(),
     }
 }

@@ -45,7 +45,7 @@ fn vectors_that_are_missing() {
 #[test]
 fn load_prints_what_the_program_prints() {
     let folder = help::folder("command");
-    let text = help::sheet(&["RANK 1 1", "3 2 0 1 Z"]);
+    let text = help::sheet(&["RANK 1 1", "3 4 0 1 Z"]);
     std::fs::write(folder.join("rank.txt"), text).unwrap();
     let output = call(&["load", folder.to_str().unwrap()]);
     assert_eq!(said(&output), "3\twaiting\t0\n");

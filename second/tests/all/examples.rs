@@ -89,7 +89,7 @@ fn comparison_of_abc() {
 fn the_longest_sheet_has_3233_bytes() {
     let mut lines = vec!["RANK 1 32".to_string()];
     for note in 1..=32 {
-        lines.push(format!("{note} 4294967294 2147483646 2147483647 Z"));
+        lines.push(format!("{note} 4294967294 2147483645 2147483646 Z"));
     }
     let lines: Vec<&str> = lines.iter().map(String::as_str).collect();
     let text = help::sheet(&lines);

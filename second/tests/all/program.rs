@@ -7,9 +7,10 @@ use std::path::PathBuf;
 /// A folder whose sheet lists note 7 alone, for this sample.
 fn folder_for(name: &str, sample: &[u8]) -> PathBuf {
     let folder = help::folder(name);
-    let (length, frames) = (sample.len(), sample.len() / 2);
-    let digest = help::hex(&help::digest_of(sample));
-    let line = format!("7 {length} 0 {frames} {digest}");
+    let length = sample.len();
+    let digest = help::digest_of(sample);
+    let end = help::record(length as u64, digest).loop_end;
+    let line = format!("7 {length} 0 {end} {}", help::hex(&digest));
     write(&folder, "rank.txt", help::sheet(&["RANK 1 1", &line]));
     folder
 }
@@ -39,7 +40,7 @@ fn a_sheet_that_is_a_folder_is_an_empty_text() {
 #[test]
 fn a_refused_sheet_prints_number_and_line_alone() {
     let folder = help::folder("refused-sheet");
-    let text = help::sheet(&["RANK 1 2", "1 2 0 1 Z", "2 3 0 1 Z"]);
+    let text = help::sheet(&["RANK 1 2", "1 4 0 1 Z", "2 3 0 1 Z"]);
     write(&folder, "rank.txt", text);
     write(&folder, "01.raw", b"ab");
     assert_eq!(printed(&folder), "refused\t3\t3\n");
@@ -48,7 +49,7 @@ fn a_refused_sheet_prints_number_and_line_alone() {
 #[test]
 fn only_the_first_4096_bytes_are_the_text() {
     let folder = help::folder("long-sheet");
-    let mut text = help::sheet(&["RANK 1 1", "1 2 0 1 Z"]);
+    let mut text = help::sheet(&["RANK 1 1", "1 4 0 1 Z"]);
     text.push_str(&"x".repeat(5000));
     write(&folder, "rank.txt", text);
     assert_eq!(printed(&folder), "refused\t1\t3\n");
@@ -122,13 +123,13 @@ fn bytes_past_a_length_of_whole_pieces_come_too_late() {
 #[test]
 fn listed_notes_are_printed_rising_with_their_own_files() {
     let folder = help::folder("several");
-    let digest = help::hex(&help::digest_of(b"ab"));
-    let last = format!("32 2 0 1 {digest}");
-    let lines = ["RANK 1 3", "1 2 0 1 Z", "10 4 0 1 Z", &last];
+    let digest = help::hex(&help::digest_of(b"abcd"));
+    let last = format!("32 4 0 1 {digest}");
+    let lines = ["RANK 1 3", "1 4 0 1 Z", "10 6 0 1 Z", &last];
     write(&folder, "rank.txt", help::sheet(&lines));
     for name in ["01.raw", "02.raw", "10.raw", "32.raw"] {
-        write(&folder, name, b"ab");
+        write(&folder, name, b"abcd");
     }
-    let expected = "1\tshut\t2\n10\twaiting\t2\n32\topen\t2\n";
+    let expected = "1\tshut\t4\n10\twaiting\t4\n32\topen\t4\n";
     assert_eq!(printed(&folder), expected);
 }

@@ -18,12 +18,12 @@ fn refused(number: u8) -> Answer {
 
 #[test]
 fn rows_1_to_4_give_a_line_and_no_note() {
-    let good = "1 64 0 32 Z";
+    let good = "1 64 0 16 Z";
     for (lines, number, line) in [
         (["RANK 1 x", good, good], 1, 1),
         (["RANK 1 33", good, good], 2, 1),
         (["RANK 1 2", good, "2 63 0 1 Z"], 3, 3),
-        (["RANK 1 2", good, "2 64 1 1 Z"], 4, 3),
+        (["RANK 1 2", good, "2 64 1 0 Z"], 4, 3),
     ] {
         let read = sheet::read(help::sheet(&lines).as_bytes());
         assert_eq!((read.number, read.line), (number, line), "{lines:?}");

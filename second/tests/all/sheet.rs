@@ -25,8 +25,8 @@ fn line_judged(line: &str) -> u8 {
 #[test]
 fn an_accepted_sheet_lists_exactly_its_notes() {
     let digest: String = (0..32).map(|k| format!("{:02x}", 7 * k + 3)).collect();
-    let line = format!("9 4096 17 2048 {digest}");
-    let text = help::sheet(&["RANK 1 2", &line, "31 2 0 1 Z"]);
+    let line = format!("9 4096 17 2000 {digest}");
+    let text = help::sheet(&["RANK 1 2", &line, "31 4 0 1 Z"]);
     let read = sheet::read(text.as_bytes());
     assert_eq!((read.number, read.line), (0, 0));
     let mut expected = Session::unlisted();
@@ -36,11 +36,19 @@ fn an_accepted_sheet_lists_exactly_its_notes() {
         Record {
             length: 4096,
             loop_start: 17,
-            loop_end: 2048,
+            loop_end: 2000,
             digest: bytes.try_into().unwrap(),
         },
     );
-    expected.list(31, help::record(2, [0; 32]));
+    expected.list(
+        31,
+        Record {
+            length: 4,
+            loop_start: 0,
+            loop_end: 1,
+            digest: [0; 32],
+        },
+    );
     assert_eq!(read.session, expected);
     assert_eq!(read.session.slots[8].status, 1);
     assert_eq!(read.session.slots[0], Slot::UNLISTED);
@@ -61,7 +69,7 @@ fn counts() {
         ("18446744073709551617", 1, 1),
         ("01", 1, 1),
     ] {
-        let text = help::sheet(&[&format!("RANK 1 {count}"), "1 2 0 1 Z"]);
+        let text = help::sheet(&[&format!("RANK 1 {count}"), "1 4 0 1 Z"]);
         assert_eq!(judged(&text), (number, line), "count {count}");
     }
 }
@@ -69,7 +77,7 @@ fn counts() {
 #[test]
 fn all_32_notes_fit() {
     let mut lines = vec!["RANK 1 32".to_string()];
-    lines.extend((1..=32).map(|note| format!("{note} 2 0 1 Z")));
+    lines.extend((1..=32).map(|note| format!("{note} 4 0 1 Z")));
     let lines: Vec<&str> = lines.iter().map(String::as_str).collect();
     assert_eq!(judged(&help::sheet(&lines)), (0, 0));
     assert_eq!(judged(&help::sheet(&lines[..32])), (1, 33));
@@ -91,15 +99,15 @@ fn notes() {
         ("05", 1),
         ("00", 1),
     ] {
-        assert_eq!(line_judged(&format!("{note} 2 0 1 Z")), number, "{note}");
+        assert_eq!(line_judged(&format!("{note} 4 0 1 Z")), number, "{note}");
     }
 }
 
 #[test]
 fn notes_rise_strictly() {
     for (second, number, line) in [("6", 0, 0), ("5", 2, 3), ("4", 2, 3)] {
-        let line_of_second = format!("{second} 2 0 1 Z");
-        let text = help::sheet(&["RANK 1 2", "5 2 0 1 Z", &line_of_second]);
+        let line_of_second = format!("{second} 4 0 1 Z");
+        let text = help::sheet(&["RANK 1 2", "5 4 0 1 Z", &line_of_second]);
         assert_eq!(judged(&text), (number, line), "5 then {second}");
     }
 }

@@ -5,7 +5,7 @@ use crate::sheet::judged;
 use second::sheet;
 
 fn good() -> String {
-    help::sheet(&["RANK 1 2", "5 64 0 32 Z", "9 6 0 3 Z"])
+    help::sheet(&["RANK 1 2", "5 64 0 16 Z", "9 6 0 1 Z"])
 }
 
 #[test]
@@ -64,10 +64,10 @@ fn line_1_has_one_form() {
         "RANK 1 +1",
         "RANK 1 1x",
     ] {
-        let text = help::sheet(&[first, "1 2 0 1 Z"]);
+        let text = help::sheet(&[first, "1 4 0 1 Z"]);
         assert_eq!(judged(&text), (1, 1), "{first:?}");
     }
-    let blanks = help::sheet(&["RANK 1 1", "1 2 0 1 Z"]).replacen('\t', " ", 1);
+    let blanks = help::sheet(&["RANK 1 1", "1 4 0 1 Z"]).replacen('\t', " ", 1);
     assert_eq!(judged(&blanks), (1, 1));
 }
 
@@ -76,20 +76,20 @@ fn a_note_line_has_one_form() {
     for line in [
         "",
         "1",
-        "1 2 0 1",
-        "1 2 0 1 ",
+        "1 4 0 1",
+        "1 4 0 1 ",
         "1 2 0 Z",
-        "1 2 0 1 Z ",
-        "1 2 0 1 Z 1",
-        " 1 2 0 1 Z",
-        "1  2 0 1 Z",
-        "1 2 0 1  Z",
+        "1 4 0 1 Z ",
+        "1 4 0 1 Z 1",
+        " 1 4 0 1 Z",
+        "1  4 0 1 Z",
+        "1 4 0 1  Z",
         "1 2  1 Z",
-        "x 2 0 1 Z",
-        "1 2x 0 1 Z",
-        "1 2 -0 1 Z",
+        "x 4 0 1 Z",
+        "1 4x 0 1 Z",
+        "1 4 -0 1 Z",
         "1 2 0 +1 Z",
-        "1 2 0 1 Z0",
+        "1 4 0 1 Z0",
         "1 2 0 0x1 Z",
     ] {
         let text = help::sheet(&["RANK 1 1", line]);
@@ -112,7 +112,7 @@ fn digests_have_64_small_hex_digits() {
         (":".to_string() + &"0".repeat(63), 1),
         ("/".to_string() + &"0".repeat(63), 1),
     ] {
-        let text = help::sheet(&["RANK 1 1", &format!("1 2 0 1 {digest}")]);
+        let text = help::sheet(&["RANK 1 1", &format!("1 4 0 1 {digest}")]);
         assert_eq!(judged(&text).0, number, "{digest}");
     }
 }

@@ -73,7 +73,8 @@ fn sessions_are_their_slots_that_are_not_empty() {
     };
     let digest = help::hex(&help::digest_of(b"sample"));
     let zeros = help::zeros();
-    let text = format!("5=6:0:3:{digest}:{FRESH}:1,32=0:0:0:{zeros}:{FRESH}:255");
+    let end = session.slots[4].record.loop_end;
+    let text = format!("5=6:0:{end}:{digest}:{FRESH}:1,32=0:0:0:{zeros}:{FRESH}:255");
     assert_eq!(values::session_text(&session), text);
     assert_eq!(values::parse_session(&text), Some(session));
     assert_eq!(values::parse_session("-"), Some(Session::unlisted()));
