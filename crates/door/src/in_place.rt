@@ -4,9 +4,9 @@ ghost use Rattle.hash.specs.Update.{update as updated};
 ghost use Rattle.session.specs.Deliver.{deliver as delivered, ask as asked};
 ghost use Rattle.sheet.specs.Judging.{judged, sheetOf};
 use hash::Hash;
-use session::Answer;
 use session::Session;
 use sheet::Verdict;
+use slots::Answer;
 
 // Folds a piece into a lent hash state, and answers the number.
 #[no_mangle]

@@ -18,10 +18,10 @@ use hash::Hash;
 use hash::Updated;
 use padded::Place;
 use padding::Written;
-use session::Answer;
 use session::Delivered;
 use session::Session;
 use sheet::Sheet;
+use slots::Answer;
 use sm3::Words;
 
 // SM3

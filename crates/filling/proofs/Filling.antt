@@ -6,8 +6,9 @@ use native.Mathlib.Omega.{arith}
 use native.Mathlib.Nat.{add-suc, add-zero}
 use lib.ListN.{length, set, take, replicate, length-set}
 use lib.Seq.{take-suc-set, take-all}
-use Rattle.session.specs.Slots.{emptySlot, emptySession}
-use Rattle.session.specs.declared.Slot.{Slot}
+use Rattle.slots.specs.Slots.{emptySlot}
+use Rattle.session.specs.Deliver.{emptySession}
+use Rattle.slots.specs.declared.Slot.{Slot}
 use Rattle.session.specs.declared.Session.{Session}
 
 replicate-more : {A : Type 0} (n : ℕ) (x : A) → replicate n x ++ (x ∷ []) ≡ replicate (suc n) x

@@ -2,7 +2,7 @@
 use Prim.Native.Nat.{ℕ}
 use mathlib.Core.Path.{_≡_, ap, _∙_}
 use mathlib.Core.List.{List}
-use Rattle.session.specs.Slots.{emptySession}
+use Rattle.session.specs.Deliver.{emptySession}
 use Rattle.session.specs.declared.Session.{Session}
 use Rattle.sheet.specs.Judging.{judged, entriesAt, withNotes, sheetIs, sheetOf}
 use Rattle.sheet.specs.Filling.{start}

@@ -1,7 +1,7 @@
 // The rank sheet, read into a lent session.
 ghost use mathlib.Core.Path.{_≡_};
 ghost use Rattle.sheet.specs.Judging.{judged, entriesAt, withNotes, sheetOf};
-ghost use Rattle.session.specs.Slots.{emptySession};
+ghost use Rattle.session.specs.Deliver.{emptySession};
 use session::Session;
 use sheet::Verdict;
 
@@ -9,7 +9,7 @@ use sheet::Verdict;
 pub fn list_none(s: &mut Session)
     ensures { λ _. ⌜ now (s .exit) ≡ emptySession ⌝ }
 {
-    let slot = session::empty_slot();
+    let slot = slots::empty_slot();
     let mut i: usize = 0;
     while i < 32 {
         s.slots[i] = slot;

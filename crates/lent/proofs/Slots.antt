@@ -22,10 +22,10 @@ use borrow.Struct.Behind.{put-at}
 use borrow.Struct.Items.{cut-records}
 use Rattle.walks.proofs.Borrow.{rowOf, cell, IsData, out, into}
 use Rattle.walks.proofs.Elements.{spot, element, same}
-use Rattle.session.specs.Slots.{emptySlot}
+use Rattle.slots.specs.Slots.{emptySlot}
 use Rattle.session.specs.Deliver.{placeOf}
 use Rattle.session.proofs.Places.{place-lt}
-use Rattle.session.specs.declared.Slot.{Slot}
+use Rattle.slots.specs.declared.Slot.{Slot}
 use Rattle.session.specs.declared.Session.{Session}
 use Rattle.lent.proofs.Structs.{Place, Places}
 

@@ -12,15 +12,15 @@ use Rattle.hash.proofs.Updated.Laws as U′
 use Rattle.hash.proofs.Digest as G
 use Rattle.hash.proofs.Digest.Laws as G′
 use Rattle.session.specs.declared.Session.{Session}
-use Rattle.session.specs.declared.Step.{Step}
-use Rattle.session.proofs.Slot as P
-use Rattle.session.proofs.Slot.Laws as P′
+use Rattle.slots.specs.declared.Step.{Step}
+use Rattle.slots.proofs.Slot as P
+use Rattle.slots.proofs.Slot.Laws as P′
 use Rattle.session.proofs.Session as S
 use Rattle.session.proofs.Session.Laws as S′
-use Rattle.session.proofs.Answer as A
-use Rattle.session.proofs.Answer.Laws as A′
-use Rattle.session.proofs.Step as D
-use Rattle.session.proofs.Step.Laws as D′
+use Rattle.slots.proofs.Answer as A
+use Rattle.slots.proofs.Answer.Laws as A′
+use Rattle.slots.proofs.Step as D
+use Rattle.slots.proofs.Step.Laws as D′
 use Rattle.session.proofs.Lists.{length-of-image}
 use Rattle.lent.specs.declared.Card.{Card}
 use Rattle.lent.proofs.Card as C

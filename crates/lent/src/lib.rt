@@ -8,11 +8,11 @@ ghost use Rattle.session.specs.Deliver.{deliver as delivered, ask as asked};
 use hash::Digest;
 use hash::Hash;
 use refusal::ACCEPTED;
-use session::Answer;
 use session::Session;
-use session::ask_at;
-use session::deliver_at;
 use session::place_of;
+use slots::Answer;
+use slots::ask_at;
+use slots::deliver_at;
 
 // Folds a piece into a lent hash state, and answers the number.
 pub fn update(h: &mut Hash, piece: &[u8]) -> u8

@@ -1,9 +1,9 @@
 // The program's work, over a folder: a rank's sheet and its notes' files, and what is printed of them. Everything that matters is in the
 // libraries below; this reads files and prints.
 use libc::STDOUT_FILENO;
-use session::Answer;
 use session::Session;
 use sheet::Sheet;
+use slots::Answer;
 
 mod path;
 
@@ -58,9 +58,9 @@ fn load(folder: &[u8], note: u64, session: Session) -> Session {
 
 fn print_note(note: u64, a: Answer) {
     print_number(note);
-    if a.status == session::WAITING {
+    if a.status == slots::WAITING {
         print(b"\twaiting\t");
-    } else if a.status == session::OPENED {
+    } else if a.status == slots::OPENED {
         print(b"\topen\t");
     } else {
         print(b"\tshut\t");

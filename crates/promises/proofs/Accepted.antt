@@ -7,12 +7,13 @@ use lib.Dec.{eqb, ltb, leb}
 use lib.ListN.{length, length-append}
 use borrow.Author.Tests.{ltb-true, ltb-false, leb-true, leb-false}
 use Rattle.refusal.specs.Table.{accepted}
-use Rattle.session.specs.Deliver.{asItStands, deliverTo, deliver}
-use Rattle.session.specs.Deliver.{isListed, onSlot}
-use Rattle.session.proofs.Places.{at-listed}
+use Rattle.slots.specs.Delivery.{asItStands, deliverTo}
+use Rattle.session.specs.Deliver.{deliver}
+use Rattle.slots.specs.Delivery.{isListed, onSlot}
+use Rattle.slots.proofs.Listed.{at-listed}
 use Rattle.rules.specs.declared.Record.{Record}
-use Rattle.session.specs.declared.Slot.{Slot}
-use Rattle.session.specs.declared.Step.{Step}
+use Rattle.slots.specs.declared.Slot.{Slot}
+use Rattle.slots.specs.declared.Step.{Step}
 use Rattle.session.specs.declared.Session.{Session}
 use Rattle.promises.specs.Deliveries.{Delivery, after, addedBytes, acceptedBytes}
 use Rattle.promises.proofs.LineRecord.{LineRecord}

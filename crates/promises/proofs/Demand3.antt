@@ -12,13 +12,14 @@ use Rattle.refusal.specs.Table.{accepted, unlisted, decided, past-length}
 use Rattle.same.specs.Same.{same}
 use Rattle.same.proofs.Same.{same-equal, equal-same, differ-same, same-differ}
 use Rattle.hash.specs.Sm3.{sm3}
-use Rattle.session.specs.Slots.{absent, waiting, opened, shut, emptySlot, waitingSlot}
+use Rattle.slots.specs.Slots.{absent, waiting, opened, shut, emptySlot, waitingSlot}
 use Rattle.rules.proofs.Rules.{is-note-is}
-use Rattle.session.specs.Deliver.{asItStands, deliverTo, onSlot, slotOf, deliver, ask}
-use Rattle.session.proofs.Places.{at-listed, ask-at-listed}
+use Rattle.slots.specs.Delivery.{asItStands, deliverTo, onSlot}
+use Rattle.session.specs.Deliver.{slotOf, deliver, ask}
+use Rattle.slots.proofs.Listed.{at-listed, ask-at-listed}
 use Rattle.rules.specs.declared.Record.{Record}
-use Rattle.session.specs.declared.Slot.{Slot}
-use Rattle.session.specs.declared.Answer.{Answer}
+use Rattle.slots.specs.declared.Slot.{Slot}
+use Rattle.slots.specs.declared.Answer.{Answer}
 use Rattle.session.specs.declared.Session.{Session}
 use Rattle.sheet.specs.Judging.{sheetOf}
 use Rattle.promises.specs.Deliveries.{Delivery, after, acceptedBytes}

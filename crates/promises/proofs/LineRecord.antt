@@ -9,10 +9,10 @@ use native.Mathlib.Omega.{arith}
 use lib.ListN.{length}
 use Rattle.rules.specs.Rules.{obeys}
 use Rattle.rules.proofs.Rules.{note-rule-is}
-use Rattle.session.specs.Slots.{emptySlot, waitingSlot}
+use Rattle.slots.specs.Slots.{emptySlot, waitingSlot}
 use Rattle.session.specs.Deliver.{slotOf}
 use Rattle.session.specs.Promises.{Unlisted}
-use Rattle.session.specs.declared.Slot.{Slot}
+use Rattle.slots.specs.declared.Slot.{Slot}
 use Rattle.rules.specs.declared.Record.{Record}
 use Rattle.session.specs.declared.Session.{Session}
 use Rattle.sheet.specs.Judging.{sheetOf}

@@ -11,18 +11,21 @@ use lib.Seq.{getD-set-same, getD-set-other, ext-getD}
 use borrow.Author.Tests.{eqb-true, eqb-false}
 use Rattle.refusal.specs.Table.{unlisted}
 use Rattle.same.proofs.Tests.{second}
-use Rattle.session.specs.Slots.{absent, emptySlot}
+use Rattle.slots.specs.Slots.{absent, emptySlot}
 use Rattle.rules.specs.Rules.{isNote}
 use Rattle.rules.proofs.Rules.{is-note-is}
-use Rattle.session.specs.Deliver.{bareRefusal, isListed, onSlot, askAt, placeOf, slotOf, onNote, ask}
-use Rattle.session.specs.declared.Slot.{Slot}
-use Rattle.session.specs.declared.Step.{Step}
-use Rattle.session.specs.declared.Answer.{Answer}
+use Rattle.slots.specs.Delivery.{bareRefusal, isListed, onSlot, askAt}
+use Rattle.session.specs.Deliver.{placeOf, slotOf, onNote, ask}
+use Rattle.slots.specs.declared.Slot.{Slot}
+use Rattle.slots.specs.declared.Step.{Step}
+use Rattle.slots.specs.declared.Answer.{Answer}
 use Rattle.session.specs.declared.Session.{Session}
 use Rattle.session.specs.declared.Delivered.{Delivered}
 use Rattle.session.specs.Promises.{Unlisted}
-use Rattle.session.proofs.Listed.{listed-note, no-note, unlisted-is}
-use Rattle.session.proofs.Places.{place-of-note, on-listed, on-unlisted, at-listed, at-unlisted, ask-at-unlisted}
+use Rattle.slots.proofs.Listed.{listed-note, no-note}
+use Rattle.session.proofs.Listed.{unlisted-is}
+use Rattle.slots.proofs.Listed.{at-listed, at-unlisted, ask-at-unlisted}
+use Rattle.session.proofs.Places.{place-of-note, on-listed, on-unlisted}
 
 -- a note's slot; note 0 has an empty one
 pub view : Session → ℕ → Slot

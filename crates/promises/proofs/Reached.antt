@@ -22,12 +22,12 @@ use Rattle.hash.proofs.Updating.{update-takes}
 use Rattle.hash.proofs.Cutting.{finish-fresh}
 use Rattle.hash.proofs.Comparing.{compared-same}
 use Rattle.rules.specs.Rules.{loopRule, obeys}
-use Rattle.session.specs.Slots.{absent, waiting, isDecided, stateInOrder, slotInOrder, bytesTaken, waitingSlot}
-use Rattle.session.specs.Deliver.{asItStands, decidedSlot, withPiece, deliverTo, askOf}
+use Rattle.slots.specs.Slots.{absent, waiting, isDecided, stateInOrder, slotInOrder, bytesTaken, waitingSlot}
+use Rattle.slots.specs.Delivery.{asItStands, decidedSlot, withPiece, deliverTo, askOf}
 use Rattle.rules.proofs.Rules.{length-rule-is}
-use Rattle.session.proofs.Deliver.{is-decided, runs-past as slot-runs-past, is-taken, waits-on, decides, asked as slot-asked}
+use Rattle.slots.proofs.Deliver.{is-decided, runs-past as slot-runs-past, is-taken, waits-on, decides, asked as slot-asked}
 use Rattle.rules.specs.declared.Record.{Record}
-use Rattle.session.specs.declared.Slot.{Slot}
+use Rattle.slots.specs.declared.Slot.{Slot}
 use Rattle.promises.specs.Demand3.{decidedStatus}
 use Rattle.promises.proofs.LineRecord.{LineRecord}
 

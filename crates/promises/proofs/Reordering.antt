@@ -6,12 +6,13 @@ use Prim.Native.Nat.{ℕ}
 use lib.Dec.{eqb}
 use lib.ListN.{length}
 use borrow.Author.Tests.{eqb-true, eqb-false}
-use Rattle.session.specs.Deliver.{deliverTo, deliver}
-use Rattle.session.specs.Deliver.{onSlot}
-use Rattle.session.specs.declared.Slot.{Slot}
-use Rattle.session.specs.declared.Step.{Step}
+use Rattle.slots.specs.Delivery.{deliverTo}
+use Rattle.session.specs.Deliver.{deliver}
+use Rattle.slots.specs.Delivery.{onSlot}
+use Rattle.slots.specs.declared.Slot.{Slot}
+use Rattle.slots.specs.declared.Step.{Step}
 use Rattle.session.specs.declared.Session.{Session}
-use Rattle.session.specs.declared.Answer.{Answer}
+use Rattle.slots.specs.declared.Answer.{Answer}
 use Rattle.promises.specs.Deliveries.{Delivery, after, ownDeliveries, ownAnswers}
 use Rattle.promises.specs.Reordering.{Reordering}
 use Rattle.promises.proofs.OneNote.{view, own, other, length-same, by-slots}

@@ -4,9 +4,10 @@ use mathlib.Core.List.{List, [], _∷_}
 use mathlib.Core.Bool.{Bool, true, false}
 use Prim.Native.Nat.{ℕ}
 use lib.Dec.{eqb}
-use Rattle.session.specs.Deliver.{deliverTo, deliver}
-use Rattle.session.specs.Deliver.{isListed}
-use Rattle.session.proofs.Places.{at-unlisted, ask-at-unlisted}
+use Rattle.slots.specs.Delivery.{deliverTo}
+use Rattle.session.specs.Deliver.{deliver}
+use Rattle.slots.specs.Delivery.{isListed}
+use Rattle.slots.proofs.Listed.{at-unlisted, ask-at-unlisted}
 use Rattle.session.specs.declared.Session.{Session}
 use Rattle.promises.specs.Deliveries.{Delivery, after}
 use Rattle.session.specs.Promises.{Unlisted}

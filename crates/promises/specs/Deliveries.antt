@@ -6,7 +6,7 @@ use lib.Dec.{eqb}
 use Rattle.refusal.specs.Table.{accepted}
 use Rattle.session.specs.Deliver.{deliver}
 use Rattle.session.specs.declared.Session.{Session}
-use Rattle.session.specs.declared.Answer.{Answer}
+use Rattle.slots.specs.declared.Answer.{Answer}
 
 -- a note and a piece of its bytes
 pub record Delivery : Type 0 where

@@ -11,8 +11,9 @@ use Rattle.refusal.specs.Table.{accepted, unlisted, decided, past-length}
 use Rattle.same.specs.Same.{same}
 use Rattle.hash.specs.Sm3.{sm3}
 use Rattle.hash.specs.State.{fresh}
-use Rattle.session.specs.Slots.{waiting, opened, shut}
-use Rattle.session.specs.Deliver.{bareRefusal, slotOf, deliver, ask}
+use Rattle.slots.specs.Slots.{waiting, opened, shut}
+use Rattle.slots.specs.Delivery.{bareRefusal}
+use Rattle.session.specs.Deliver.{slotOf, deliver, ask}
 use Rattle.session.specs.Promises.{Unlisted}
 use Rattle.rules.specs.declared.Record.{Record}
 use Rattle.session.specs.declared.Session.{Session}

@@ -6,13 +6,14 @@ use native.Mathlib.Omega.{arith}
 use lib.Seq.{getD-set-other, set-comm}
 use Rattle.rules.specs.Rules.{isNote}
 use Rattle.rules.proofs.Rules.{is-note-is}
-use Rattle.session.specs.Slots.{emptySlot}
-use Rattle.session.specs.Deliver.{isListed, placeOf, slotOf, onNote}
+use Rattle.slots.specs.Slots.{emptySlot}
+use Rattle.slots.specs.Delivery.{isListed}
+use Rattle.session.specs.Deliver.{placeOf, slotOf, onNote}
 use Rattle.session.specs.Promises.{Apart}
-use Rattle.session.specs.declared.Slot.{Slot}
+use Rattle.slots.specs.declared.Slot.{Slot}
 use Rattle.session.specs.declared.Session.{Session}
-use Rattle.session.specs.declared.Step.{Step}
-use Rattle.session.proofs.Listed.{listed-note, no-note}
+use Rattle.slots.specs.declared.Step.{Step}
+use Rattle.slots.proofs.Listed.{listed-note, no-note}
 use Rattle.session.proofs.Places.{place-of-note, on-listed, on-unlisted}
 
 -- different notes have different places

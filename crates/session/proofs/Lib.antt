@@ -1,7 +1,3 @@
-pub mod Slots
-pub mod Deliver
-pub mod Records
-pub mod Pieces
 pub mod Lists
 pub mod Places
 pub mod Listed

@@ -1,36 +1,19 @@
 -- A note that is listed, and its test. Assumes nothing.
 use Prim.Native.Nat.{ℕ}
-use mathlib.Core.Path.{_≡_, refl, ap}
+use mathlib.Core.Path.{_≡_, refl}
 use mathlib.Core.Logic.{_↔_, inl, inr}
-use mathlib.Core.Bool.{Bool, true, false, not}
+use mathlib.Core.Bool.{Bool, true, false}
 use native.Mathlib.Omega.{arith}
-use borrow.Author.Tests.{ne-eqb, leb-true, leb-false, eqb-true, eqb-false, not-true}
+use borrow.Author.Tests.{leb-true, leb-false, eqb-true, eqb-false}
 use lib.Dec.{leb, eqb}
-use Rattle.same.proofs.Tests.{first, second, both, never, not-both}
-use Rattle.rules.specs.Rules.{isNote}
+use Rattle.same.proofs.Tests.{never, not-both}
 use Rattle.rules.proofs.Rules.{is-note-is}
-use Rattle.session.specs.Slots.{absent}
-use Rattle.session.specs.Deliver.{slotOf, isListed}
+use Rattle.slots.specs.Slots.{absent}
+use Rattle.slots.specs.Delivery.{isListed}
+use Rattle.slots.proofs.Listed.{listed-note, listed-status, is-listed}
+use Rattle.session.specs.Deliver.{slotOf}
 use Rattle.session.specs.Promises.{Listed, Unlisted}
-use Rattle.session.specs.declared.Slot.{Slot}
 use Rattle.session.specs.declared.Session.{Session}
-
-module _ (s : Slot) (note : ℕ) where
-  pub listed-note : isListed s note ≡ true → isNote note ≡ true
-  unfolding isListed
-  listed-note h = first (isNote note) (not (eqb (s .status) absent)) h
-
-  listed-status : isListed s note ≡ true → s .status ≡ absent → ⊥
-  unfolding isListed
-  listed-status h = eqb-false _ _ (not-true _ (second (isNote note) (not (eqb (s .status) absent)) h))
-
-  is-listed : isNote note ≡ true → (s .status ≡ absent → ⊥) → isListed s note ≡ true
-  unfolding isListed
-  is-listed n h = both _ _ n (ap not (ne-eqb _ _ h))
-
-  pub no-note : isNote note ≡ false → isListed s note ≡ false
-  unfolding isListed
-  no-note h = simp h
 
 module _ (s : Session) (note : ℕ) where
   listed-then : isListed (slotOf s note) note ≡ true → Listed s note

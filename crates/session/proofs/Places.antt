@@ -8,11 +8,13 @@ use lib.Seq.{set-getD}
 use Rattle.refusal.specs.Table.{unlisted}
 use Rattle.rules.specs.Rules.{isNote}
 use Rattle.rules.proofs.Rules.{is-note-is}
-use Rattle.session.specs.Slots.{emptySlot}
-use Rattle.session.specs.Deliver.{bareRefusal, askOf, isListed, onSlot, askAt, placeOf, slotOf, onNote, ask}
-use Rattle.session.specs.declared.Slot.{Slot}
+use Rattle.slots.specs.Slots.{emptySlot}
+use Rattle.slots.specs.Delivery.{bareRefusal, isListed, onSlot, askAt}
+use Rattle.slots.proofs.Listed.{at-listed, at-unlisted}
+use Rattle.session.specs.Deliver.{placeOf, slotOf, onNote, ask}
+use Rattle.slots.specs.declared.Slot.{Slot}
 use Rattle.session.specs.declared.Session.{Session}
-use Rattle.session.specs.declared.Step.{Step}
+use Rattle.slots.specs.declared.Step.{Step}
 use Rattle.session.proofs.Lists.{getD-within}
 
 pub place-of-note : (note : ℕ) → isNote note ≡ true → placeOf note ≡ note - 1
@@ -35,23 +37,6 @@ place-lt note = go (isNote note) refl
 pub slot-at : (s : Session) (note : ℕ) → 1 ≤ note → note ≤ 32 → slotOf s note ≡ getD (s .slots) (note - 1) emptySlot
 unfolding slotOf
 slot-at s note low high = rw (place-of-note note (is-note-is note .1 (low, high)))
-
-module _ (s : Slot) (note : ℕ) where
-  pub at-listed : (f : Slot → Step) → isListed s note ≡ true → onSlot s note f ≡ f s
-  unfolding onSlot
-  at-listed f h = simp h
-
-  pub at-unlisted : (f : Slot → Step) → isListed s note ≡ false → onSlot s note f ≡ record { answer = bareRefusal unlisted; slot = s }
-  unfolding onSlot
-  at-unlisted f h = simp h
-
-  pub ask-at-listed : isListed s note ≡ true → askAt s note ≡ askOf s
-  unfolding askAt
-  ask-at-listed h = simp h
-
-  pub ask-at-unlisted : isListed s note ≡ false → askAt s note ≡ bareRefusal unlisted
-  unfolding askAt
-  ask-at-unlisted h = simp h
 
 module _ (s : Session) (note : ℕ) where
   -- a slot that is put back as it was leaves the session as it was

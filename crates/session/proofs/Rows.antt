@@ -10,18 +10,21 @@ use borrow.Author.Tests.{eqb-true, eqb-false, leb-true, leb-false}
 use lib.Dec.{eqb, leb}
 use lib.ListN.{length}
 use Rattle.refusal.specs.Table.{accepted}
-use Rattle.session.specs.Slots.{waiting, slotInOrder, bytesTaken}
-use Rattle.session.specs.Deliver.{bareRefusal, asItStands, deliverTo, slotOf, isListed, deliver, ask}
+use Rattle.slots.specs.Slots.{waiting, slotInOrder, bytesTaken}
+use Rattle.slots.specs.Delivery.{bareRefusal, asItStands, deliverTo, isListed}
+use Rattle.session.specs.Deliver.{slotOf, deliver, ask}
 use Rattle.session.specs.Promises.{Row, row5, row6, row7, row8, row0, AskRow, ask5, ask6, ask0, Listed}
-use Rattle.session.specs.declared.Slot.{Slot}
+use Rattle.slots.specs.declared.Slot.{Slot}
 use Rattle.session.specs.declared.Session.{Session}
-use Rattle.session.specs.declared.Answer.{Answer}
+use Rattle.slots.specs.declared.Answer.{Answer}
 use Rattle.session.specs.declared.Delivered.{Delivered}
-use Rattle.session.proofs.Slots.{not-waiting, has-room, else-decided, taken-waiting}
-use Rattle.session.proofs.Deliver.{not-in-order, is-decided, runs-past, is-taken, asked, asked-not-in-order}
-use Rattle.session.proofs.Pieces.{counted, empty-piece}
-use Rattle.session.proofs.Places.{place-of-note, unchanged, on-listed, on-unlisted, ask-at-listed, ask-at-unlisted}
-use Rattle.session.proofs.Listed.{listed-note, listed-is, unlisted-is}
+use Rattle.slots.proofs.Slots.{not-waiting, has-room, else-decided, taken-waiting}
+use Rattle.slots.proofs.Deliver.{not-in-order, is-decided, runs-past, is-taken, asked, asked-not-in-order}
+use Rattle.slots.proofs.Pieces.{counted, empty-piece}
+use Rattle.slots.proofs.Listed.{ask-at-listed, ask-at-unlisted}
+use Rattle.session.proofs.Places.{place-of-note, unchanged, on-listed, on-unlisted}
+use Rattle.slots.proofs.Listed.{listed-note}
+use Rattle.session.proofs.Listed.{listed-is, unlisted-is}
 
 -- where two bounds hold together, they are passed together
 past-room : {a b c d : ℕ} → (a ≤ b) ↔ (c ≤ d) → b < a → d < c

@@ -1,68 +1,20 @@
--- Deliveries and asking: document 01, "The loading session" and "Refusal numbers". Order of refusals: 5, 6, 7, 8.
+-- Deliveries and asking: document 01, "The loading session".
 use Prim.Native.Nat.{ℕ, _-_}
 use mathlib.Core.List.{List}
-use mathlib.Core.Bool.{Bool, cond, not, _&&_}
-use lib.Dec.{leb, ltb, eqb}
-use lib.ListN.{length, getD, set}
-use Rattle.refusal.specs.Table.{accepted, unlisted, slot-not-in-order, decided, past-length}
-use Rattle.hash.specs.State.{fresh}
-use Rattle.hash.specs.Update.{update}
-use Rattle.hash.specs.Digests.{compareState}
-use Rattle.hash.specs.declared.Hash.{Hash}
+use mathlib.Core.Bool.{cond}
+use lib.ListN.{getD, set, replicate}
 use Rattle.rules.specs.Rules.{isNote}
-use Rattle.session.specs.Slots.{absent, waiting, opened, shut, slotInOrder, bytesTaken, emptySlot}
-use Rattle.session.specs.declared.Slot.{Slot}
+use Rattle.slots.specs.Slots.{emptySlot}
+use Rattle.slots.specs.Delivery.{deliverTo, onSlot, askAt}
+use Rattle.slots.specs.declared.Slot.{Slot}
+use Rattle.slots.specs.declared.Answer.{Answer}
+use Rattle.slots.specs.declared.Step.{Step}
 use Rattle.session.specs.declared.Session.{Session}
-use Rattle.session.specs.declared.Answer.{Answer}
-use Rattle.session.specs.declared.Step.{Step}
 use Rattle.session.specs.declared.Delivered.{Delivered}
 
--- "status 0, taken 0"
-unfoldable pub bareRefusal : ℕ → Answer
-bareRefusal number = record { no = number; status = absent; taken = 0 }
-
--- "status and taken as they stood"
-unfoldable pub asItStands : ℕ → Slot → Answer
-asItStands number s = record { no = number; status = s .status; taken = bytesTaken s }
-
--- demand 3: "there the note is open if the accepted bytes' SM3 digest is the sheet's and shut if not"; "A decided slot holds a fresh state"
-unfoldable pub decidedSlot : Slot → Hash → Slot
-decidedSlot s h = record { sample = s .sample; state = fresh; status = cond (compareState h (s .sample .digest) .same) opened shut }
-
--- the piece goes into the hash state; "A piece that reaches the length exactly decides the note"
-unfoldable pub withPiece : Slot → List ℕ → Slot
-withPiece s piece =
-    let h = update (s .state) piece .state in
-    cond (ltb (h .total) (s .sample .length)) (record { sample = s .sample; state = h; status = waiting }) (decidedSlot s h)
-
--- a delivery to a listed slot
-unfoldable pub deliverTo : Slot → List ℕ → Step
-deliverTo s piece =
-    cond (slotInOrder s)
-    (cond (eqb (s .status) waiting)
-    (cond (leb (length piece) (s .sample .length - s .state .total))
-    (record { answer = asItStands accepted (withPiece s piece); slot = withPiece s piece })
-    (record { answer = asItStands past-length s; slot = s }))
-    (record { answer = asItStands decided s; slot = s }))
-    (record { answer = bareRefusal slot-not-in-order; slot = s })
-
--- asking a listed slot: "status and taken, with refusals 5 and 6 only"
-unfoldable pub askOf : Slot → Answer
-askOf s = cond (slotInOrder s) (asItStands accepted s) (bareRefusal slot-not-in-order)
-
--- not "note 0, above 32, or unlisted"; "A slot is unlisted exactly when its status is 0"
-unfoldable pub isListed : Slot → ℕ → Bool
-isListed s note = isNote note && not (eqb (s .status) absent)
-
--- an operation on the slot at a note's place
-unfoldable pub onSlot : Slot → ℕ → (Slot → Step) → Step
-onSlot s note operation = cond (isListed s note) (operation s) (record { answer = bareRefusal unlisted; slot = s })
-
-unfoldable pub deliverAt : Slot → ℕ → List ℕ → Step
-deliverAt s note piece = onSlot s note (λ slot. deliverTo slot piece)
-
-unfoldable pub askAt : Slot → ℕ → Answer
-askAt s note = cond (isListed s note) (askOf s) (bareRefusal unlisted)
+-- a session with no note listed
+unfoldable pub emptySession : Session
+emptySession = record { slots = replicate 32 emptySlot }
 
 -- "32 slots, one a note": the first is note 1's. A number that is no note is given the first place too, where refusal 5 leaves the slot as it was
 unfoldable pub placeOf : ℕ → ℕ

@@ -1,4 +1,4 @@
--- What the crate promises, from ANY stored session. All of it is proved in proofs/Kept.antt.
+-- What is promised from ANY stored session. All of it is proved in proofs/Kept.antt.
 use Prim.Native.Nat.{ℕ, _+_, _-_, _≤_, _<_}
 use mathlib.Core.Path.{_≡_}
 use mathlib.Core.Logic.{_↔_, _⊎_}
@@ -6,26 +6,15 @@ use mathlib.Core.List.{List, []}
 use mathlib.Core.Bool.{true, false}
 use lib.ListN.{length, getD, set}
 use Rattle.refusal.specs.Table.{accepted, unlisted, slot-not-in-order, decided, past-length}
-use Rattle.hash.specs.State.{fresh, inOrder}
-use Rattle.hash.specs.Update.{taken}
-use Rattle.hash.specs.Digests.{finish}
-use Rattle.rules.specs.Rules.{obeys}
-use Rattle.session.specs.Slots.{absent, waiting, opened, shut, slotInOrder, bytesTaken, emptySlot}
-use Rattle.session.specs.Deliver.{bareRefusal, asItStands, withPiece, slotOf, onNote, deliver, ask}
-use Rattle.session.specs.declared.Slot.{Slot}
+use Rattle.slots.specs.Slots.{absent, waiting, slotInOrder, bytesTaken, emptySlot}
+use Rattle.slots.specs.Delivery.{bareRefusal, asItStands, withPiece}
+use Rattle.slots.specs.Promises.{Decided}
+use Rattle.session.specs.Deliver.{slotOf, onNote, deliver, ask}
+use Rattle.slots.specs.declared.Slot.{Slot}
 use Rattle.session.specs.declared.Session.{Session}
-use Rattle.session.specs.declared.Answer.{Answer}
-use Rattle.session.specs.declared.Step.{Step}
+use Rattle.slots.specs.declared.Answer.{Answer}
+use Rattle.slots.specs.declared.Step.{Step}
 use Rattle.session.specs.declared.Delivered.{Delivered}
-
--- open or shut
-abbrev pub Decided : Slot → Type 0
-Decided s = (s .status ≡ opened) ⊎ (s .status ≡ shut)
-
--- "waiting, its hash state is in order with total below the length; decided, its hash state is fresh"
-abbrev pub StateInOrder : Slot → Type 0
-StateInOrder s =
-    ((s .status ≡ waiting) × (inOrder (s .state) ≡ true) × (s .state .total < s .sample .length)) ⊎ (Decided s × (s .state ≡ fresh))
 
 -- "note 0, above 32, or unlisted", and the others
 abbrev pub Unlisted : Session → ℕ → Type 0
@@ -62,15 +51,6 @@ pub data AskRow (s : Session) (note : ℕ) : Answer → Type 0 where
   ask6 : Listed s note → slotInOrder (slotOf s note) ≡ false → AskRow s note (bareRefusal slot-not-in-order)
   ask0 : Listed s note → slotInOrder (slotOf s note) ≡ true → AskRow s note (asItStands accepted (slotOf s note))
 
--- What row 0 leaves of a waiting slot in order: the record; below the length the state with the piece in it; "A piece that reaches the length exactly
--- decides the note", open exactly when final answers the record's digest, and "A decided slot holds a fresh state".
-pub record Outcome (before : Slot) (piece : List ℕ) (after : Slot) : Type 0 where
-  pub keeps : after .sample ≡ before .sample
-  pub waits : bytesTaken before + length piece < before .sample .length → (after .status ≡ waiting) × (after .state ≡ taken (before .state) piece)
-  pub leaves : bytesTaken before + length piece ≡ before .sample .length → after .state ≡ fresh
-  pub opens : bytesTaken before + length piece ≡ before .sample .length → (after .status ≡ opened) ↔ (before .sample .digest ≡ finish (taken (before .state) piece) .bytes)
-  pub shuts : bytesTaken before + length piece ≡ before .sample .length → (after .status ≡ shut) ↔ (before .sample .digest ≡ finish (taken (before .state) piece) .bytes → ⊥)
-
 -- two operations on different notes, in either order: the same answers, and the same session at the end
 pub record Apart (s : Session) (m n : ℕ) (f g : Slot → Step) : Type 0 where
   pub answers : onNote (onNote s m f .session) n g .answer ≡ onNote s n g .answer
@@ -79,8 +59,6 @@ pub record Apart (s : Session) (m n : ℕ) (f g : Slot → Step) : Type 0 where
 pub record Promises : Type 0 where
   -- "32 slots, one a note": the first is note 1's
   pub places : (s : Session) (note : ℕ) → 1 ≤ note → note ≤ 32 → slotOf s note ≡ getD (s .slots) (note - 1) emptySlot
-  -- "A listed slot is in order when its record obeys rules 3 and 4, and" its state fits its status
-  pub slotsInOrder : (s : Slot) → (slotInOrder s ≡ true) ↔ ((obeys (s .sample) ≡ true) × StateInOrder s)
   -- "Given exactly when": what a delivery answers and leaves is a row of the table that holds, and no other row holds
   pub table : (s : Session) (note : ℕ) (piece : List ℕ) (d : Delivered) → (d ≡ deliver s note piece) ↔ Row s note piece d
   pub askTable : (s : Session) (note : ℕ) (a : Answer) → (a ≡ ask s note) ↔ AskRow s note a
@@ -89,9 +67,6 @@ pub record Promises : Type 0 where
   -- "An empty piece to a waiting note is accepted and changes nothing"
   pub emptyPiece : (s : Session) (note : ℕ) → Listed s note → slotInOrder (slotOf s note) ≡ true → slotOf s note .status ≡ waiting
       → deliver s note [] ≡ record { answer = asItStands accepted (slotOf s note); session = s }
-  -- what row 0 leaves, in the words of the paper
-  pub outcome : (slot : Slot) (piece : List ℕ) → slotInOrder slot ≡ true → slot .status ≡ waiting → bytesTaken slot + length piece ≤ slot .sample .length
-      → Outcome slot piece (withPiece slot piece)
   -- bytes taken are those taken before and the piece, decided or not
   pub counted : (s : Session) (note : ℕ) (piece : List ℕ) → deliver s note piece .answer .no ≡ accepted
       → deliver s note piece .answer .taken ≡ bytesTaken (slotOf s note) + length piece

@@ -1,41 +1,13 @@
-// The loading session.
+// The loading session: 32 slots, one a note.
 ghost use mathlib.Core.Path.{_≡_};
-ghost use Rattle.session.specs.Slots.{isDecided, stateInOrder, slotInOrder, bytesTaken, emptySlot, waitingSlot, emptySession};
-ghost use Rattle.session.specs.Deliver.{bareRefusal, asItStands, decidedSlot, withPiece, deliverTo, askOf, isListed, deliverAt, askAt, placeOf, deliver, ask};
-use hash::Hash;
-use refusal::ACCEPTED;
-use refusal::DECIDED;
-use refusal::PAST_LENGTH;
-use refusal::SLOT_NOT_IN_ORDER;
-use refusal::UNLISTED;
-use rules::Record;
-
-// One note's place in the session.
-#[repr(C)]
-pub struct Slot {
-    pub sample: Record,
-    pub state: Hash,
-    pub status: u8,
-}
+ghost use Rattle.session.specs.Deliver.{emptySession, placeOf, deliver, ask};
+use slots::Answer;
+use slots::Slot;
 
 // 32 slots, one a note.
 #[repr(C)]
 pub struct Session {
     pub slots: [Slot; 32],
-}
-
-// What a delivery and asking answer, but for the session.
-#[repr(C)]
-pub struct Answer {
-    pub no: u8,
-    pub status: u8,
-    pub taken: u64,
-}
-
-// What an operation on one slot answers, and the slot after it.
-pub struct Step {
-    pub answer: Answer,
-    pub slot: Slot,
 }
 
 // What a delivery answers, and the session after it.
@@ -45,184 +17,12 @@ pub struct Delivered {
     pub session: Session,
 }
 
-// A slot's status. Any other is listed and not in order.
-pub const ABSENT: u8 = 0;
-
-pub const WAITING: u8 = 1;
-
-pub const OPENED: u8 = 2;
-
-pub const SHUT: u8 = 3;
-
-fn is_decided(status: u8) -> bool
-    ensures { λ r. ⌜ r ≡ isDecided status ⌝ }
-{
-    status == OPENED || status == SHUT
-}
-
-// Whether a slot's hash state fits its status.
-fn state_in_order(s: Slot) -> bool
-    ensures { λ r. ⌜ r ≡ stateInOrder s ⌝ }
-{
-    let status = s.status;
-    let state = s.state;
-    if status == WAITING {
-        let total = state.total;
-        let sample = s.sample;
-        return state.in_order() && total < sample.length as u64;
-    }
-    if is_decided(status) {
-        return state.is_fresh();
-    }
-    false
-}
-
-fn slot_in_order(s: Slot) -> bool
-    ensures { λ r. ⌜ r ≡ slotInOrder s ⌝ }
-{
-    let sample = s.sample;
-    rules::obeys(sample) && state_in_order(s)
-}
-
-// Bytes taken.
-fn bytes_taken(s: Slot) -> u64
-    ensures { λ r. ⌜ r ≡ bytesTaken s ⌝ }
-{
-    let status = s.status;
-    if status == WAITING {
-        let state = s.state;
-        state.total
-    } else {
-        let sample = s.sample;
-        sample.length as u64
-    }
-}
-
-// A slot of no note.
-pub fn empty_slot() -> Slot
-    ensures { λ r. ⌜ r ≡ emptySlot ⌝ }
-{
-    let sample = rules::zero_record();
-    let state = Hash::fresh();
-    Slot {
-        sample,
-        state,
-        status: ABSENT,
-    }
-}
-
-// A listed note's slot, of which nothing has come yet.
-pub fn waiting_slot(r: Record) -> Slot
-    ensures { λ s. ⌜ s ≡ waitingSlot r ⌝ }
-{
-    let state = Hash::fresh();
-    Slot {
-        sample: r,
-        state,
-        status: WAITING,
-    }
-}
-
 // A session with no note listed.
 pub fn empty_session() -> Session
     ensures { λ r. ⌜ r ≡ emptySession ⌝ }
 {
-    let slot = empty_slot();
+    let slot = slots::empty_slot();
     Session { slots: [slot; 32] }
-}
-
-// A refusal that tells nothing of a slot.
-fn bare_refusal(number: u8) -> Answer
-    ensures { λ r. ⌜ r ≡ bareRefusal number ⌝ }
-{
-    Answer {
-        no: number,
-        status: ABSENT,
-        taken: 0,
-    }
-}
-
-fn as_it_stands(number: u8, s: Slot) -> Answer
-    ensures { λ r. ⌜ r ≡ asItStands number s ⌝ }
-{
-    let taken = bytes_taken(s);
-    Answer {
-        no: number,
-        status: s.status,
-        taken,
-    }
-}
-
-// The note is decided: h has all of its bytes.
-fn decided_slot(s: Slot, h: Hash) -> Slot
-    ensures { λ r. ⌜ r ≡ decidedSlot s h ⌝ }
-{
-    let sample = s.sample;
-    let digest = sample.digest;
-    let compared = h.matches(&digest);
-    let state = Hash::fresh();
-    let status = if compared.same { OPENED } else { SHUT };
-    Slot {
-        sample,
-        state,
-        status,
-    }
-}
-
-// A piece that does not run past the length.
-fn with_piece(s: Slot, piece: &[u8]) -> Slot
-    ensures { λ r. ⌜ r ≡ withPiece s (now (piece .entry)) ⌝ }
-{
-    let sample = s.sample;
-    let before = s.state;
-    let updated = before.update(piece);
-    let state = updated.state;
-    if state.total < sample.length as u64 {
-        Slot {
-            sample,
-            state,
-            status: WAITING,
-        }
-    } else {
-        decided_slot(s, state)
-    }
-}
-
-// A delivery to a listed slot.
-fn deliver_to(s: Slot, piece: &[u8]) -> Step
-    ensures { λ r. ⌜ r ≡ deliverTo s (now (piece .entry)) ⌝ }
-{
-    if !slot_in_order(s) {
-        let answer = bare_refusal(SLOT_NOT_IN_ORDER);
-        return Step { answer, slot: s };
-    }
-    let status = s.status;
-    if status != WAITING {
-        let answer = as_it_stands(DECIDED, s);
-        return Step { answer, slot: s };
-    }
-    // A sum could wrap, a difference cannot: a waiting slot in order has taken less than its length.
-    let sample = s.sample;
-    let state = s.state;
-    let room = sample.length as u64 - state.total;
-    if piece.len() as u64 > room {
-        let answer = as_it_stands(PAST_LENGTH, s);
-        return Step { answer, slot: s };
-    }
-    let slot = with_piece(s, piece);
-    let answer = as_it_stands(ACCEPTED, slot);
-    Step { answer, slot }
-}
-
-// Asking a listed slot.
-fn ask_of(s: Slot) -> Answer
-    ensures { λ r. ⌜ r ≡ askOf s ⌝ }
-{
-    if slot_in_order(s) {
-        as_it_stands(ACCEPTED, s)
-    } else {
-        bare_refusal(SLOT_NOT_IN_ORDER)
-    }
 }
 
 // Where a note's slot stands, and 0 for a number that is no note.
@@ -236,44 +36,13 @@ pub fn place_of(note: u64) -> usize
     }
 }
 
-// Whether the number is a note and the slot at its place is listed.
-fn is_listed(s: Slot, note: u64) -> bool
-    ensures { λ r. ⌜ r ≡ isListed s note ⌝ }
-{
-    let status = s.status;
-    rules::is_note(note) && status != ABSENT
-}
-
-// A delivery to the slot at a note's place.
-pub fn deliver_at(s: Slot, note: u64, piece: &[u8]) -> Step
-    ensures { λ r. ⌜ r ≡ deliverAt s note (now (piece .entry)) ⌝ }
-{
-    if is_listed(s, note) {
-        deliver_to(s, piece)
-    } else {
-        let answer = bare_refusal(UNLISTED);
-        Step { answer, slot: s }
-    }
-}
-
-// Asking the slot at a note's place.
-pub fn ask_at(s: Slot, note: u64) -> Answer
-    ensures { λ r. ⌜ r ≡ askAt s note ⌝ }
-{
-    if is_listed(s, note) {
-        ask_of(s)
-    } else {
-        bare_refusal(UNLISTED)
-    }
-}
-
 impl Session {
     pub fn deliver(mut self, note: u64, piece: &[u8]) -> Delivered
         ensures { λ r. ⌜ r ≡ deliver self note (now (piece .entry)) ⌝ }
     {
         let place = place_of(note);
         let slot = self.slots[place];
-        let step = deliver_at(slot, note, piece);
+        let step = slots::deliver_at(slot, note, piece);
         let answer = step.answer;
         let after = step.slot;
         self.slots[place] = after;
@@ -288,6 +57,6 @@ impl Session {
     {
         let place = place_of(note);
         let slot = self.slots[place];
-        ask_at(slot, note)
+        slots::ask_at(slot, note)
     }
 }

@@ -9,7 +9,7 @@ use lib.Dec.{eqb}
 use lib.ListN.{set}
 use Rattle.refusal.specs.Table.{accepted}
 use Rattle.lines.specs.Reading.{headerLine}
-use Rattle.session.specs.Slots.{emptySession}
+use Rattle.session.specs.Deliver.{emptySession}
 use Rattle.session.specs.declared.Session.{Session}
 use Rattle.session.proofs.Places.{place-lt}
 use Rattle.sheet.specs.Judging.{judged, entriesAt, withNotes, sessionOf, sheetIs, sheetOf}

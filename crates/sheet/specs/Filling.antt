@@ -4,7 +4,7 @@ use mathlib.Core.List.{List}
 use mathlib.Core.Bool.{cond}
 use lib.Dec.{eqb}
 use Rattle.refusal.specs.Table.{accepted}
-use Rattle.session.specs.Slots.{waitingSlot}
+use Rattle.slots.specs.Slots.{waitingSlot}
 use Rattle.session.specs.Deliver.{placeOf}
 use Rattle.lines.specs.Reading.{noteLine, headerLine}
 use Rattle.sheet.specs.declared.Verdict.{Verdict}

@@ -6,7 +6,8 @@ use lib.Dec.{ltb, eqb}
 use lib.ListN.{length, set}
 use Rattle.refusal.specs.Table.{accepted, form, count-or-note, bad-length, bad-loop}
 use Rattle.rules.specs.Rules.{countRule, noteRule, lengthRule, loopRule}
-use Rattle.session.specs.Slots.{waitingSlot, emptySession}
+use Rattle.slots.specs.Slots.{waitingSlot}
+use Rattle.session.specs.Deliver.{emptySession}
 use Rattle.session.specs.Deliver.{placeOf}
 use Rattle.session.specs.declared.Session.{Session}
 use Rattle.lines.specs.Reading.{nothing, noteLine, headerLine}

@@ -2,7 +2,7 @@
 ghost use mathlib.Core.Path.{_≡_};
 ghost use Rattle.sheet.specs.Judging.{headerNumber, entryNumber, noteNumber, verdictAt, judged, entriesAt, withNotes, sheetOf};
 ghost use Rattle.sheet.specs.Filling.{start, listing};
-ghost use Rattle.session.specs.Slots.{emptySession};
+ghost use Rattle.session.specs.Deliver.{emptySession};
 use lines::Entry;
 use lines::Field;
 use lines::NOTHING;
@@ -13,7 +13,7 @@ use refusal::BAD_LOOP;
 use refusal::COUNT_OR_NOTE;
 use refusal::FORM;
 use session::Session;
-use session::Slot;
+use slots::Slot;
 
 // Whether a line is bad: its refusal number and its line number, from 1; both 0 where none is.
 #[repr(C)]
@@ -142,7 +142,7 @@ pub fn listing_at(text: &[u8], at: usize) -> Listing
     let l = lines::note_line(text, at);
     let e = l.entry;
     let sample = e.sample;
-    let slot = session::waiting_slot(sample);
+    let slot = slots::waiting_slot(sample);
     let place = session::place_of(e.note as u64);
     Listing {
         place,

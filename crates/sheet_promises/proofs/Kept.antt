@@ -5,7 +5,7 @@ use mathlib.Core.List.{List}
 use mathlib.Core.Logic.{⊎-elim}
 use borrow.Author.Tests.{eq-eqb, ne-eqb}
 use Rattle.refusal.specs.Table.{accepted}
-use Rattle.session.specs.Slots.{emptySession}
+use Rattle.session.specs.Deliver.{emptySession}
 use Rattle.sheet.specs.Judging.{verdictAt, judged, sessionOf, sheetIs, sheetOf}
 use Rattle.lines.specs.declared.Entry.{Entry}
 use Rattle.sheet.specs.declared.Verdict.{Verdict}

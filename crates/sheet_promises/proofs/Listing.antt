@@ -9,7 +9,8 @@ use lib.Dec.{eqb}
 use native.Mathlib.Omega.{arith}
 use lib.ListN.{length, getD, set, length-set, getD-replicate}
 use lib.Seq.{getD-set-same, getD-set-other, ext-getD}
-use Rattle.session.specs.Slots.{emptySlot, waitingSlot, emptySession}
+use Rattle.slots.specs.Slots.{emptySlot, waitingSlot}
+use Rattle.session.specs.Deliver.{emptySession}
 use Rattle.rules.specs.Rules.{isNote, noteRule}
 use Rattle.rules.proofs.Rules.{is-note-is, note-rule-is}
 use Rattle.session.specs.Deliver.{placeOf, slotOf}

@@ -5,7 +5,8 @@ use mathlib.Core.Logic.{_↔_}
 use mathlib.Core.List.{List, _∷_, _++_}
 use lib.ListN.{length}
 use Rattle.refusal.specs.Table.{accepted, form}
-use Rattle.session.specs.Slots.{emptySlot, waitingSlot, emptySession}
+use Rattle.slots.specs.Slots.{emptySlot, waitingSlot}
+use Rattle.session.specs.Deliver.{emptySession}
 use Rattle.session.specs.Deliver.{slotOf}
 use Rattle.session.specs.declared.Session.{Session}
 use Rattle.sheet.specs.Judging.{judged, sheetOf}

@@ -16,13 +16,13 @@ use Rattle.walks.proofs.Borrow.{rowOf, machine, typed, opened, closed, known, g
 use Rattle.walks.proofs.Calls.{arrives, asks}
 use Rattle.walks.proofs.Loops.{after, envOf, Some, held, hold, turning, once-more, tests}
 use Rattle.walks.proofs.Ends.{ends, stands}
-use Rattle.session.specs.Slots.{emptySlot}
-use Rattle.session.specs.declared.Slot.{Slot}
+use Rattle.slots.specs.Slots.{emptySlot}
+use Rattle.slots.specs.declared.Slot.{Slot}
 use Rattle.session.specs.declared.Session.{Session}
-use Rattle.session.proofs.empty_slot as empty
-use Rattle.session.proofs.empty_slot.Symbol as empty-def
-use Rattle.session.proofs.empty_slot.Symbol.{name as #empty}
-use Rattle.session.proofs.empty_slot.Met as empty-thm
+use Rattle.slots.proofs.empty_slot as empty
+use Rattle.slots.proofs.empty_slot.Symbol as empty-def
+use Rattle.slots.proofs.empty_slot.Symbol.{name as #empty}
+use Rattle.slots.proofs.empty_slot.Met as empty-thm
 use Rattle.lent.proofs.Structs.{Place, Places, all-slots}
 use Rattle.lent.proofs.Slots.{sets-slot, slot-back}
 use Rattle.filling.proofs.Filling.{Emptied, one-more, all-empty}
@@ -116,4 +116,4 @@ list-none-spec 𝓤 H 𝓜 𝓖 𝓡 =
     stands 𝓤 H 𝓜 𝓖 𝓡 code.env none.ended stayed (none.clauses 𝓤 H (𝓖 .A) (𝓜 .mem) (𝓡 .run)) #list-none code.function (code.unfolded 𝓤 H 𝓜 𝓡)
     (goes-ref 𝓤 H (𝓖 .A) (givenOf 𝓤 H 𝓜 𝓖) 1 0 tt (plain (λ _. rowOf Places)), tt) (λ κs. (ptr-vals, tt)) (λ κs. (mut-tells (named 0) (κs .0) (rowOf Places), tt))
     (λ fm κs qs bounds a g are. walk 𝓤 H (𝓖 .A) (givenOf 𝓤 H 𝓜 𝓖) (𝓜 .mem) (𝓡 .run) κs qs (a .0) (tablesOf 𝓤 H 𝓜 (tables 𝓤 H 𝓜 𝓡 code.env))
-    (cited 𝓤 H (tripleOf 𝓤 H (𝓖 .A) empty.signature (empty.spec 𝓤 H (𝓖 .A) (𝓜 .mem) (𝓡 .run))) 𝓜 𝓡 code.env #empty empty-def.routine code.calls-session·empty-slot (empty-thm.met 𝓤 H 𝓜 𝓖 𝓡)))
+    (cited 𝓤 H (tripleOf 𝓤 H (𝓖 .A) empty.signature (empty.spec 𝓤 H (𝓖 .A) (𝓜 .mem) (𝓡 .run))) 𝓜 𝓡 code.env #empty empty-def.routine code.calls-slots·empty-slot (empty-thm.met 𝓤 H 𝓜 𝓖 𝓡)))

@@ -11,7 +11,7 @@ use Rattle.walks.proofs.Borrow.{rowOf, machine, typed, made, opened, closed, go
 use Rattle.walks.proofs.Calls.{arrives, asks, asks-last}
 use Rattle.walks.proofs.Lend.{lentAs, lends, regains}
 use Rattle.walks.proofs.Ends.{ends, stands}
-use Rattle.session.specs.Slots.{emptySession}
+use Rattle.session.specs.Deliver.{emptySession}
 use Rattle.session.specs.declared.Session.{Session}
 use Rattle.sheet.specs.Judging.{judged, entriesAt, withNotes}
 use Rattle.sheet.proofs.judged as judge

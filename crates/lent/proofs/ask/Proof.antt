@@ -10,19 +10,20 @@ use Rattle.walks.proofs.Words.{URA, named, w64, Val, vint, vptr, SProp, ent, em
 use Rattle.walks.proofs.Borrow.{rowOf, machine, typed, made, looked, shut, known, gone}
 use Rattle.walks.proofs.Calls.{arrives, asks}
 use Rattle.walks.proofs.Ends.{ends, stands}
-use Rattle.session.specs.Slots.{emptySlot}
-use Rattle.session.specs.Deliver.{placeOf, askAt}
-use Rattle.session.specs.declared.Slot.{Slot}
+use Rattle.slots.specs.Slots.{emptySlot}
+use Rattle.slots.specs.Delivery.{askAt}
+use Rattle.session.specs.Deliver.{placeOf}
+use Rattle.slots.specs.declared.Slot.{Slot}
 use Rattle.session.specs.declared.Session.{Session}
 use Rattle.session.proofs.Places.{asked-there}
 use Rattle.session.proofs.place_of as place-of
 use Rattle.session.proofs.place_of.Symbol as place-of-def
 use Rattle.session.proofs.place_of.Symbol.{name as #place-of}
 use Rattle.session.proofs.place_of.Met as place-of-thm
-use Rattle.session.proofs.ask_at as ask-at
-use Rattle.session.proofs.ask_at.Symbol as ask-at-def
-use Rattle.session.proofs.ask_at.Symbol.{name as #ask-at}
-use Rattle.session.proofs.ask_at.Met as ask-at-thm
+use Rattle.slots.proofs.ask_at as ask-at
+use Rattle.slots.proofs.ask_at.Symbol as ask-at-def
+use Rattle.slots.proofs.ask_at.Symbol.{name as #ask-at}
+use Rattle.slots.proofs.ask_at.Met as ask-at-thm
 use Rattle.lent.proofs.Structs.{Place, Places, Said, all-slots}
 use Rattle.lent.proofs.Slots.{below, far, reads-slot, slot-back}
 use Rattle.lent.proofs.ask.Key.{name as #ask}
@@ -92,4 +93,4 @@ ask-spec 𝓤 H 𝓜 𝓖 𝓡 =
     (λ κs. (ptr-vals, (uint-vals w64, tt))) (λ κs. (shr-tells (named 0) (κs .0) (rowOf Places), (uint-tells w64, tt)))
     (λ fm κs qs bounds a g are. walk 𝓤 H (𝓖 .A) (givenOf 𝓤 H 𝓜 𝓖) (𝓜 .mem) (𝓡 .run) κs qs (a .0) (a .1 .0) (tables 𝓤 H 𝓜 𝓡 code.env .C) (tables 𝓤 H 𝓜 𝓡 code.env .Λ) fm
     (cited 𝓤 H (tripleOf 𝓤 H (𝓖 .A) place-of.signature (place-of.spec 𝓤 H (𝓖 .A) (𝓜 .mem) (𝓡 .run))) 𝓜 𝓡 code.env #place-of place-of-def.routine code.calls-session·place-of (place-of-thm.met 𝓤 H 𝓜 𝓖 𝓡))
-    (cited 𝓤 H (tripleOf 𝓤 H (𝓖 .A) ask-at.signature (ask-at.spec 𝓤 H (𝓖 .A) (𝓜 .mem) (𝓡 .run))) 𝓜 𝓡 code.env #ask-at ask-at-def.routine code.calls-session·ask-at (ask-at-thm.met 𝓤 H 𝓜 𝓖 𝓡)) (are .1 .0 .1))
+    (cited 𝓤 H (tripleOf 𝓤 H (𝓖 .A) ask-at.signature (ask-at.spec 𝓤 H (𝓖 .A) (𝓜 .mem) (𝓡 .run))) 𝓜 𝓡 code.env #ask-at ask-at-def.routine code.calls-slots·ask-at (ask-at-thm.met 𝓤 H 𝓜 𝓖 𝓡)) (are .1 .0 .1))

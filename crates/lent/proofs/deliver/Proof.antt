@@ -10,22 +10,23 @@ use Rattle.walks.proofs.Words.{URA, fullShare, named, w64, Val, vint, vptr, SPr
 use Rattle.walks.proofs.Borrow.{rowOf, machine, typed, made, opened, closed, known, gone}
 use Rattle.walks.proofs.Calls.{arrives, asks}
 use Rattle.walks.proofs.Ends.{ends, stands}
-use Rattle.session.specs.Slots.{emptySlot}
+use Rattle.slots.specs.Slots.{emptySlot}
 use Rattle.session.specs.Deliver.{deliver as delivered}
-use Rattle.session.specs.Deliver.{placeOf, deliverAt}
-use Rattle.session.specs.declared.Slot.{Slot}
+use Rattle.slots.specs.Delivery.{deliverAt}
+use Rattle.session.specs.Deliver.{placeOf}
+use Rattle.slots.specs.declared.Slot.{Slot}
 use Rattle.session.specs.declared.Session.{Session}
-use Rattle.session.specs.declared.Step.{Step}
+use Rattle.slots.specs.declared.Step.{Step}
 use Rattle.session.specs.declared.Delivered.{Delivered}
 use Rattle.session.proofs.Places.{put-back}
 use Rattle.session.proofs.place_of as place-of
 use Rattle.session.proofs.place_of.Symbol as place-of-def
 use Rattle.session.proofs.place_of.Symbol.{name as #place-of}
 use Rattle.session.proofs.place_of.Met as place-of-thm
-use Rattle.session.proofs.deliver_at as deliver-at
-use Rattle.session.proofs.deliver_at.Symbol as deliver-at-def
-use Rattle.session.proofs.deliver_at.Symbol.{name as #deliver-at}
-use Rattle.session.proofs.deliver_at.Met as deliver-at-thm
+use Rattle.slots.proofs.deliver_at as deliver-at
+use Rattle.slots.proofs.deliver_at.Symbol as deliver-at-def
+use Rattle.slots.proofs.deliver_at.Symbol.{name as #deliver-at}
+use Rattle.slots.proofs.deliver_at.Met as deliver-at-thm
 use Rattle.lent.proofs.Structs.{Place, Places, Said, Done, answer-is, slot-is, all-slots}
 use Rattle.lent.proofs.Slots.{below, far, reads-slot, sets-slot, slot-back}
 use Rattle.lent.proofs.deliver.Key.{name as #deliver}
@@ -125,4 +126,4 @@ deliver-spec 𝓤 H 𝓜 𝓖 𝓡 =
     (λ κs. (ptr-vals, (uint-vals w64, (slice-vals, tt)))) (λ κs. (mut-tells (named 0) (κs .0) (rowOf Places), (uint-tells w64, (shr-slice-tells (named 1) (κs .1 .0) u8, tt))))
     (λ fm κs qs bounds a g are. walk 𝓤 H (𝓖 .A) (givenOf 𝓤 H 𝓜 𝓖) (𝓜 .mem) (𝓡 .run) κs qs (a .0) (a .1 .0) (a .1 .1 .0) (tables 𝓤 H 𝓜 𝓡 code.env .C) (tables 𝓤 H 𝓜 𝓡 code.env .Λ) fm
     (cited 𝓤 H (tripleOf 𝓤 H (𝓖 .A) place-of.signature (place-of.spec 𝓤 H (𝓖 .A) (𝓜 .mem) (𝓡 .run))) 𝓜 𝓡 code.env #place-of place-of-def.routine code.calls-session·place-of (place-of-thm.met 𝓤 H 𝓜 𝓖 𝓡))
-    (cited 𝓤 H (tripleOf 𝓤 H (𝓖 .A) deliver-at.signature (deliver-at.spec 𝓤 H (𝓖 .A) (𝓜 .mem) (𝓡 .run))) 𝓜 𝓡 code.env #deliver-at deliver-at-def.routine code.calls-session·deliver-at (deliver-at-thm.met 𝓤 H 𝓜 𝓖 𝓡)) (are .1 .0 .1) (are .1 .1 .0))
+    (cited 𝓤 H (tripleOf 𝓤 H (𝓖 .A) deliver-at.signature (deliver-at.spec 𝓤 H (𝓖 .A) (𝓜 .mem) (𝓡 .run))) 𝓜 𝓡 code.env #deliver-at deliver-at-def.routine code.calls-slots·deliver-at (deliver-at-thm.met 𝓤 H 𝓜 𝓖 𝓡)) (are .1 .0 .1) (are .1 .1 .0))

@@ -2,7 +2,8 @@
 use borrow.Author.Needs.{needs}
 use mathlib.Core.Path.{_≡_}
 use lib.ListN.{length}
-use Rattle.session.specs.Deliver.{deliverAt, deliver}
+use Rattle.slots.specs.Delivery.{deliverAt}
+use Rattle.session.specs.Deliver.{deliver}
 use Rattle.session.proofs.Lists.{length-of-image}
 use Rattle.session.proofs.Places.{place-lt, put-back}
 use Rattle.session.proofs.Session.deliver.Statement.{statement}
