@@ -2,16 +2,15 @@
 mod in_place;
 
 ghost use mathlib.Core.Path.{_≡_};
-ghost use Rattle.sm3.specs.Standard.{folded};
+ghost use Rattle.standard.specs.Standard.{folded};
 ghost use Rattle.padding.specs.Writing.{written, bufferAfter};
 ghost use Rattle.padded.specs.Viewing.{viewNumber, viewPlace};
-ghost use Rattle.padded.specs.Removing.{removeNumber, removePart};
+ghost use Rattle.padded.specs.Removing.{removeNumber, removeLength};
 ghost use Rattle.hash.specs.State.{fresh};
 ghost use Rattle.hash.specs.Update.{update};
 ghost use Rattle.hash.specs.Digests.{finish, digest, compareMessage, compareState};
 ghost use Rattle.session.specs.Deliver.{deliver, ask};
 ghost use Rattle.sheet.specs.Judging.{sheetOf};
-ghost use lib.ListN.{length};
 use hash::Compared;
 use hash::Digest;
 use hash::Hash;
@@ -22,7 +21,7 @@ use session::Delivered;
 use session::Session;
 use sheet::Sheet;
 use slots::Answer;
-use sm3::Words;
+use standard::Words;
 
 // SM3
 
@@ -110,10 +109,9 @@ pub extern "C" fn vs_remove_number(bytes: &[u8]) -> u8
 // The part is the first so many of the bytes.
 #[no_mangle]
 pub extern "C" fn vs_remove_part(bytes: &[u8]) -> usize
-    ensures { λ r. ⌜ r ≡ length (removePart (now (bytes .entry))) ⌝ }
+    ensures { λ r. ⌜ r ≡ removeLength (now (bytes .entry)) ⌝ }
 {
-    let part = padded::remove_part(bytes);
-    part.len()
+    padded::remove_length(bytes)
 }
 
 // The rank sheet and the loading session

@@ -8,7 +8,7 @@ use mathlib.Core.List.{List, [], _∷_, _++_, append-assoc}
 use lib.ListN.{length, replicate, length-append}
 use borrow.Author.Tests.{lt-ltb, le-ltb}
 use Rattle.refusal.specs.Table.{accepted, state-not-in-order, too-long}
-use Rattle.sm3.specs.Standard.{folded, hashValue}
+use Rattle.standard.specs.Standard.{folded, hashValue}
 use Rattle.padding.specs.Padding.{longest, padding, padded}
 use Rattle.hash.specs.Sm3.{sm3}
 use Rattle.hash.specs.State.{fresh, kept, inOrder}
@@ -16,7 +16,7 @@ use Rattle.hash.specs.Update.{taken}
 use Rattle.hash.specs.Cutting.{joined, afterAll, numbers}
 use Rattle.hash.specs.Digests.{finish, digest, noDigest}
 use Rattle.hash.specs.declared.Hash.{Hash}
-use Rattle.sm3.proofs.Folding.{folded-join}
+use Rattle.standard.proofs.Folding.{folded-join}
 use Rattle.hash.proofs.State.{inOrder-fresh}
 use Rattle.hash.proofs.Taking.{taken-nil, taken-join, kept-taken, inOrder-taken}
 use Rattle.hash.proofs.Updating.{update-takes}

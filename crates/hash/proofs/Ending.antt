@@ -7,11 +7,13 @@ use mathlib.Core.Bool.{true}
 use mathlib.Core.List.{List, _++_, append-assoc}
 use lib.Dec.{eqb}
 use borrow.Author.Tests.{eq-eqb}
-use lib.ListN.{length, take, drop, replicate, length-append}
-use lib.Seq.{paste, length-paste, take-length, take-append-le, take-at}
+use lib.ListN.{length, take, drop, replicate, length-append, length-drop}
+use lib.Seq.{take-append-le, take-at}
 use Rattle.refusal.specs.Table.{accepted}
-use Rattle.sm3.specs.Standard.{IV, folded, rest, hashValue}
-use Rattle.sm3.proofs.Folding.{folded-join, length-rest}
+use Rattle.copy.specs.Copy.{copied}
+use Rattle.copy.proofs.Copied.{copied-front}
+use Rattle.standard.specs.Standard.{IV, folded, rest, hashValue}
+use Rattle.standard.proofs.Folding.{folded-join, length-rest}
 use Rattle.padding.specs.Padding.{longest, padding, padded}
 use Rattle.padding.specs.Writing.{tailOf, tailSize, tailAnswer, tailAfter, written, bufferAfter}
 use Rattle.padding.specs.declared.Written.{Written}
@@ -38,17 +40,18 @@ holds s t n e = record { within = omega (arith, length-append s t); are = take-a
 
 -- A state's tail, copied into the buffer, with the padding behind the kept bytes
 module _ (h : Hash) (o : inOrder h ≡ true) (b a : List ℕ) (r : Written)
-    (copied : b ≡ paste blank 0 (h .tail) (length (h .tail)))
+    (so : b ≡ copied blank 0 (h .tail))
     (answered : r ≡ tailAnswer (h .total) (length b))
     (left : a ≡ tailAfter (h .total) b) where
+  laid : b ≡ h .tail ++ drop (length (h .tail)) blank
+  laid = so ∙ copied-front blank (h .tail) (omega (arith, length-tail h o))
+
   long : length b ≡ 128
-  long = rw copied (length-paste blank 0 (h .tail) (length (h .tail)) (omega (arith, length-tail h o)) (omega arith))
+  long = rw laid (omega (arith, length-append (h .tail) (drop (length (h .tail)) blank), length-drop (length (h .tail)) blank, length-tail h o))
 
   front : take (h .total % 64) b ≡ kept h
   unfolding kept
-  front =
-      rw (copied, take-length (h .tail))
-      (take-append-le (h .total % 64) (h .tail) (drop (0 + length (h .tail)) blank) (omega (arith, length-tail h o)))
+  front = rw laid (take-append-le (h .total % 64) (h .tail) (drop (length (h .tail)) blank) (omega (arith, length-tail h o)))
 
   pub state-holds : Holds a (r .count) (kept h ++ padding (h .total))
   state-holds =

@@ -1,4 +1,3 @@
-pub mod Pasting
 pub mod State
 pub mod Taking
 pub mod Updating

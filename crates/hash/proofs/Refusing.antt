@@ -12,7 +12,7 @@ use Rattle.refusal.specs.Table.{accepted, state-not-in-order, too-long, wrong-s
 use Rattle.same.specs.Same.{same}
 use Rattle.same.proofs.Tests.{not-both}
 use Rattle.same.proofs.Same.{same-equal, equal-same}
-use Rattle.sm3.proofs.Folding.{length-hashValue}
+use Rattle.standard.proofs.Folding.{length-hashValue}
 use Rattle.padding.specs.Padding.{longest}
 use Rattle.hash.specs.Sm3.{sm3}
 use Rattle.hash.specs.State.{inOrder}

@@ -1,19 +1,21 @@
 -- What follows from a hash state's being in order, and which state is fresh. Assumes nothing.
 use mathlib.Core.Path.{_≡_, refl, sym, ap, _∙_}
 use Prim.Native.Nat.{ℕ, zero, suc, _+_, _-_, _%_, _≤_, _<_}
-use native.Mathlib.Nat.{zero-add, sub-zero, zero-sub, suc-sub-suc}
+use native.Mathlib.Nat.{sub-zero, zero-sub, suc-sub-suc}
 use native.Mathlib.Omega.{arith}
 use mathlib.Core.Bool.{true, false, _&&_, and-assoc, and-true}
 use mathlib.Core.List.{List, [], _++_, append-nil}
 use lib.Dec.{leb, eqb}
 use lib.ListN.{length, getD, take, drop, replicate, length-append, length-drop, take-append-drop, length-replicate, getD-replicate}
-use lib.Seq.{paste, take-all, take-length, length-take-le, take-at, drop-at, getD-drop, drop-drop, ext-getD}
+use lib.Seq.{take-all, take-length, length-take-le, take-at, drop-at, getD-drop, drop-drop, ext-getD}
 use borrow.Author.Tests.{leb-true, le-leb, lt-leb, eqb-true}
+use Rattle.copy.specs.Copy.{copied}
+use Rattle.copy.proofs.Copied.{copied-fits, copied-front}
 use Rattle.same.specs.Same.{same}
 use Rattle.same.proofs.Same.{same-equal, same-self, equal-same}
 use Rattle.same.proofs.Tests.{first, second, both}
-use Rattle.sm3.specs.declared.Words.{Words}
-use Rattle.sm3.specs.Standard.{IV}
+use Rattle.standard.specs.declared.Words.{Words}
+use Rattle.standard.specs.Standard.{IV}
 use Rattle.padding.specs.Padding.{longest}
 use Rattle.hash.specs.State.{fresh, inList, isFresh, kept, inOrder, asTail}
 use Rattle.hash.specs.Promises.{InOrder}
@@ -30,10 +32,14 @@ drop-replicate n zero = rw (sub-zero n)
 drop-replicate zero (suc r) = rw (zero-sub (suc r))
 drop-replicate (suc n) (suc r) = drop-replicate n r ∙ rw (suc-sub-suc n r)
 
+-- a part that goes to the end
+pub to-end : (n : ℕ) (s : List ℕ) → take (length s - n) (drop n s) ≡ drop n s
+to-end n s = take-all (length s - n) (drop n s) (omega (arith, length-drop n s))
+
 -- bytes copied to the front of zeros are a tail
-pub paste-tail : (s : List ℕ) → paste (replicate 64 0) 0 s (length s) ≡ asTail s
+pub tail-copied : (s : List ℕ) → length s ≤ 64 → copied (replicate 64 0) 0 s ≡ asTail s
 unfolding asTail
-paste-tail s = rw (zero-add (length s), take-length s, drop-replicate 64 (length s))
+tail-copied s fits = copied-front (replicate 64 0) s fits ∙ rw (drop-replicate 64 (length s))
 
 pub asTail-full : (s : List ℕ) → length s ≡ 64 → asTail s ≡ s
 unfolding asTail
@@ -88,10 +94,10 @@ module _ (h : Hash) (o : inOrder h ≡ true) where
       sym (take-append-drop (h .total % 64) (h .tail))
       ∙ rw (zeros-after, length-take-le (h .total % 64) (h .tail) (omega (arith, length-tail)))
 
-  -- what is put behind the kept bytes goes over zeros
-  pub put-behind : (x : List ℕ) → paste (h .tail) (h .total % 64) x (length x) ≡ asTail (kept h ++ x)
+  -- what is copied behind the kept bytes goes over zeros
+  pub copied-behind : (x : List ℕ) → h .total % 64 + length x ≤ 64 → copied (h .tail) (h .total % 64) x ≡ asTail (kept h ++ x)
   unfolding kept asTail
-  put-behind x =
+  copied-behind x fits =
       let r = h .total % 64 in
       let n : 64 - r - length x ≡ 64 - length (kept h ++ x) = omega (arith, length-append (kept h) x, length-kept) in
       let z : drop (r + length x) (h .tail) ≡ replicate (64 - length (kept h ++ x)) 0 =
@@ -99,7 +105,7 @@ module _ (h : Hash) (o : inOrder h ≡ true) where
       ∙ ap (drop (length x)) zeros-after
       ∙ drop-replicate (64 - r) (length x)
       ∙ ap (λ (k : ℕ). replicate k 0) n in
-      rw (take-length x, z)
+      rw (copied-fits (h .tail) x r (omega (arith, length-tail)), take-length x, z)
 
 -- in order, byte by byte
 zero-after : (h : Hash) → inOrder h ≡ true → (i : ℕ) → h .total % 64 ≤ i → i < 64 → getD (h .tail) i 0 ≡ 0

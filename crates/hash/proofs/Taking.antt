@@ -6,14 +6,15 @@ use native.Mathlib.Nat.{add-zero}
 use mathlib.Core.Bool.{true}
 use mathlib.Core.List.{List, [], _++_, append-assoc, append-nil}
 use lib.ListN.{length, take, drop, length-append, take-append-drop}
-use lib.Seq.{paste, length-take-le}
-use Rattle.sm3.specs.Standard.{folded, rest}
+use lib.Seq.{length-take-le}
+use Rattle.copy.specs.Copy.{copied}
+use Rattle.standard.specs.Standard.{folded, rest}
 use Rattle.padding.specs.Padding.{longest}
 use Rattle.hash.specs.State.{kept, inOrder, asTail}
 use Rattle.hash.specs.Update.{taken}
 use Rattle.hash.specs.declared.Hash.{Hash}
-use Rattle.sm3.proofs.Folding.{length-rest, rest-short, folded-short, folded-join, rest-join, folded-whole, rest-whole}
-use Rattle.hash.proofs.State.{parts, put-behind, asTail-full, kept-asTail, inOrder-asTail, length-kept, tail-kept}
+use Rattle.standard.proofs.Folding.{length-rest, rest-short, folded-short, folded-join, rest-join, folded-whole, rest-whole}
+use Rattle.hash.proofs.State.{parts, copied-behind, asTail-full, kept-asTail, inOrder-asTail, length-kept, tail-kept}
 
 pub total-taken : (h : Hash) (x : List ℕ) → taken h x .total ≡ h .total + length x
 unfolding taken
@@ -58,18 +59,18 @@ module _ (h : Hash) (o : inOrder h ≡ true) where
   unfolding taken kept
   taken-whole x none = rw none
 
-  -- where no block is filled, it is put behind the kept bytes
+  -- where no block is filled, it is copied behind the kept bytes
   pub taken-short : (x : List ℕ) → length x < 64 - h .total % 64
-      → taken h x ≡ record { words = h .words; total = h .total + length x; tail = paste (h .tail) (h .total % 64) x (length x) }
+      → taken h x ≡ record { words = h .words; total = h .total + length x; tail = copied (h .tail) (h .total % 64) x }
   unfolding taken
   taken-short x few =
       let short : length (kept h ++ x) < 64 = omega (arith, length-append (kept h) x, length-kept h o) in
-      parts (folded-short (h .words) (kept h ++ x) short) refl (ap asTail (rest-short (kept h ++ x) short) ∙ sym (put-behind h o x))
+      parts (folded-short (h .words) (kept h ++ x) short) refl (ap asTail (rest-short (kept h ++ x) short) ∙ sym (copied-behind h o x (omega arith)))
 
   -- and else its front fills a block, and the blocks after that are folded where they lie
   pub taken-long : (x : List ℕ) → 64 - h .total % 64 ≤ length x
       → (let r = h .total % 64 in
-      let full = paste (h .tail) r (take (64 - r) x) (length (take (64 - r) x)) in
+      let full = copied (h .tail) r (take (64 - r) x) in
       taken h x ≡ record { words = folded (folded (h .words) full) (drop (64 - r) x); total = h .total + length x; tail = asTail (rest (drop (64 - r) x)) })
   unfolding taken
   taken-long x many =
@@ -80,4 +81,4 @@ module _ (h : Hash) (o : inOrder h ≡ true) where
       let whole : length s % 64 ≡ 0 = omega arith in
       let cut : kept h ++ x ≡ s ++ drop (64 - r) x =
       ap (λ (y : List ℕ). kept h ++ y) (sym (take-append-drop (64 - r) x)) ∙ sym (append-assoc (kept h) front (drop (64 - r) x)) in
-      rw (put-behind h o front, asTail-full s l, cut, folded-whole (h .words) s (drop (64 - r) x) whole, rest-join s (drop (64 - r) x), rest-whole s whole)
+      rw (copied-behind h o front (omega (arith, length-take-le (64 - r) x many)), asTail-full s l, cut, folded-whole (h .words) s (drop (64 - r) x) whole, rest-join s (drop (64 - r) x), rest-whole s whole)

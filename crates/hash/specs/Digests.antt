@@ -6,7 +6,7 @@ use lib.Dec.{ltb, eqb}
 use lib.ListN.{length, replicate}
 use Rattle.refusal.specs.Table.{accepted, state-not-in-order, too-long, wrong-size}
 use Rattle.same.specs.Same.{same}
-use Rattle.sm3.specs.Standard.{folded, hashValue}
+use Rattle.standard.specs.Standard.{folded, hashValue}
 use Rattle.padding.specs.Padding.{longest, padding}
 use Rattle.hash.specs.Sm3.{sm3}
 use Rattle.hash.specs.State.{kept, inOrder}

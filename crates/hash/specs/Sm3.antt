@@ -1,7 +1,7 @@
 -- The digest of GB/T 32905-2016: document 003, 5.1.
 use Prim.Native.Nat.{ℕ}
 use mathlib.Core.List.{List}
-use Rattle.sm3.specs.Standard.{IV, folded, hashValue}
+use Rattle.standard.specs.Standard.{IV, folded, hashValue}
 use Rattle.padding.specs.Padding.{padded}
 
 -- pad the message, iterate the compression over its blocks from IV, and write the words out

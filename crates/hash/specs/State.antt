@@ -5,8 +5,8 @@ use mathlib.Core.Bool.{Bool, _&&_}
 use lib.Dec.{leb, eqb}
 use lib.ListN.{length, take, drop, replicate}
 use Rattle.same.specs.Same.{same}
-use Rattle.sm3.specs.declared.Words.{Words}
-use Rattle.sm3.specs.Standard.{IV}
+use Rattle.standard.specs.declared.Words.{Words}
+use Rattle.standard.specs.Standard.{IV}
 use Rattle.padding.specs.Padding.{longest}
 use Rattle.hash.specs.declared.Hash.{Hash}
 

@@ -5,7 +5,7 @@ use mathlib.Core.Bool.{cond}
 use lib.Dec.{ltb}
 use lib.ListN.{length}
 use Rattle.refusal.specs.Table.{accepted, state-not-in-order, too-long}
-use Rattle.sm3.specs.Standard.{folded, rest}
+use Rattle.standard.specs.Standard.{folded, rest}
 use Rattle.padding.specs.Padding.{longest}
 use Rattle.hash.specs.State.{kept, inOrder, asTail}
 use Rattle.hash.specs.declared.Hash.{Hash}

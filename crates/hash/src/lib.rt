@@ -3,20 +3,16 @@ use refusal::ACCEPTED;
 use refusal::STATE_NOT_IN_ORDER;
 use refusal::TOO_LONG;
 use refusal::WRONG_SIZE;
-use sm3::Words;
+use standard::Words;
 use units::Bytes;
-
-mod tail;
-
-use tail::put;
-use tail::tail_of;
+use units::LONGEST;
 ghost use mathlib.Core.Path.{_≡_};
 ghost use mathlib.Core.Bool.{true};
 ghost use Prim.Native.Nat.{_+_, _≤_};
 ghost use lib.ListN.{length};
 ghost use Rattle.hash.specs.State.{fresh, inList, isFresh, inOrder, asTail};
 ghost use Rattle.refusal.specs.Table.{accepted};
-ghost use Rattle.sm3.specs.Standard.{folded, rest, hashValue};
+ghost use Rattle.standard.specs.Standard.{folded, rest, hashValue};
 ghost use Rattle.padding.specs.Padding.{longest};
 ghost use Rattle.same.specs.Same.{same};
 ghost use Rattle.hash.specs.Update.{taken, update};
@@ -50,9 +46,6 @@ pub struct Compared {
     pub no: u8,
     pub same: bool,
 }
-
-// The most bytes that a message has: 2^61 - 1, so that its length in bits fits eight bytes.
-const LONGEST: u64 = 0x1fff_ffff_ffff_ffff;
 
 impl Hash {
     // "The fresh start and the block size of 64 belong to the state."
@@ -97,9 +90,9 @@ impl Hash {
             return false;
         }
         let kept = (total % 64) as usize;
-        let tail = self.tail;
+        let all = self.tail;
         let zeros = [0u8; Hash::BLOCK];
-        same::bytes(&tail[kept..], &zeros[kept..])
+        same::bytes(&all[kept..], &zeros[kept..])
     }
 
     // Refusals 9 and 10. What room is left is compared with the piece: their sum could pass 2^64.
@@ -118,9 +111,10 @@ impl Hash {
                 state: self,
             };
         }
+        let after = self.taken(piece);
         Updated {
             no: ACCEPTED,
-            state: self.taken(piece),
+            state: after,
         }
     }
 
@@ -138,10 +132,10 @@ impl Hash {
         let mut tail = self.tail;
         let room = Hash::BLOCK - kept;
         if piece.len() < room {
-            put(&mut tail, kept, piece);
+            copy::bytes(&mut tail, kept, piece);
             return Hash { words, total, tail };
         }
-        put(&mut tail, kept, &piece[..room]);
+        copy::bytes(&mut tail, kept, &piece[..room]);
         let full = sm3::fold(words, &tail);
         kept_of(full, total, &piece[room..])
     }
@@ -155,7 +149,7 @@ impl Hash {
         }
         let tail = self.tail;
         let mut last = [0u8; 2 * Hash::BLOCK];
-        put(&mut last, 0, &tail);
+        copy::bytes(&mut last, 0, &tail);
         let written = padding::pad(&mut last, Bytes(self.total));
         let count = written.count;
         ended(self.words, &last[..count])
@@ -181,6 +175,16 @@ fn kept_of(words: Words, total: u64, bytes: &[u8]) -> Hash
     }
 }
 
+// Bytes at the front of a tail, zeros after them.
+fn tail_of(bytes: &[u8]) -> [u8; 64]
+    requires { ⌜ length (now bytes) ≤ 64 ⌝ }
+    ensures { λ r. ⌜ r ≡ asTail (now (bytes .entry)) ⌝ }
+{
+    let mut tail = [0u8; Hash::BLOCK];
+    copy::bytes(&mut tail, 0, bytes);
+    tail
+}
+
 // Eight words compared one by one.
 fn same_words(v: Words, w: Words) -> bool
     ensures { λ r. ⌜ r ≡ same (inList v) (inList w) ⌝ }
@@ -201,9 +205,8 @@ pub fn digest_of(message: &[u8]) -> Digest
 {
     let mut last = [0u8; 2 * Hash::BLOCK];
     let written = padding::write(message, &mut last);
-    let no = written.no;
-    if no != ACCEPTED {
-        return no_digest(no);
+    if written.no != ACCEPTED {
+        return no_digest(written.no);
     }
     let count = written.count;
     ended(sm3::fold(Hash::START, message), &last[..count])
@@ -220,9 +223,10 @@ pub fn matches(message: &[u8], expected: &[u8]) -> Compared
 fn ended(words: Words, last: &[u8]) -> Digest
     ensures { λ r. ⌜ r ≡ record { no = accepted; bytes = hashValue (folded words (now (last .entry))) } ⌝ }
 {
+    let all = sm3::fold(words, last);
     Digest {
         no: ACCEPTED,
-        bytes: sm3::hash_value(sm3::fold(words, last)),
+        bytes: standard::hash_value(all),
     }
 }
 

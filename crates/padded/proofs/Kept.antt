@@ -1,7 +1,7 @@
 -- The crate's promises, kept. Assumes nothing.
 use Prim.Native.Nat.{ℕ, _/_, _<_, _≤_}
 use mathlib.Core.Path.{_≡_, refl, sym, _∙_}
-use mathlib.Core.Bool.{Bool, true, false}
+use mathlib.Core.Bool.{true, false}
 use mathlib.Core.List.{List}
 use borrow.Author.Tests.{eqb-false}
 use lib.ListN.{length, take}
@@ -15,9 +15,9 @@ use Rattle.padded.specs.Viewing.{viewNumber}
 use Rattle.padded.specs.Removing.{statedBits, isPadded, removeNumber, removePart}
 use Rattle.padded.specs.Promises.{Promises, Tailed, PaddedForm}
 use Rattle.padded.proofs.Viewed.{view-long, view-short, view-other, view-past, view-accepts, view-cases, viewed, not-long, not-short, not-other, not-past, not-there, no-part as no-block}
-use Rattle.padded.proofs.Placed.{placed}
+use Rattle.padded.proofs.Placed.{inside}
 use Rattle.padded.proofs.Joined.{block-is, all-blocks}
-use Rattle.padded.proofs.Removed.{accepts, refuses, part-of, no-part}
+use Rattle.padded.proofs.Removed.{accepts, refuses, part-of, no-part, answered, length-within}
 use Rattle.padded.proofs.Forms.{form-padded, form-message, message-short, message-form}
 
 module _ (s b : List ℕ) (i : ℕ) where
@@ -43,18 +43,11 @@ module _ (s b : List ℕ) (i : ℕ) where
 
 -- the remover's two answers
 module _ (b : List ℕ) where
-  answered : {P : Type 0} → (isPadded b ≡ true → P) → (isPadded b ≡ false → P) → P
-  answered {P} f g = by (isPadded b) refl
-    where
-      by : (p : Bool) → isPadded b ≡ p → P
-      by true e = f e
-      by false e = g e
-
   accepted-padded : removeNumber b ≡ accepted → isPadded b ≡ true
-  accepted-padded e = answered (λ h. h) (λ h. absurd (eqb-false 0 14 refl (sym e ∙ sym (refuses b h))))
+  accepted-padded e = answered b (λ h. h) (λ h. absurd (eqb-false 0 14 refl (sym e ∙ sym (refuses b h))))
 
   refused-not : (removeNumber b ≡ accepted → ⊥) → isPadded b ≡ false
-  refused-not f = answered (λ h. absurd (f (sym (accepts b h)))) (λ h. h)
+  refused-not f = answered b (λ h. absurd (f (sym (accepts b h)))) (λ h. h)
 
   has-form : AreBytes b → isPadded b ≡ true → PaddedForm b
   has-form all h = record { message = take (statedBits b / 8) b; short = message-short b all h; form = message-form b all h }
@@ -76,7 +69,7 @@ kept =
       view-thirteen = λ s b i. (is-other s b i, λ h. view-other s b i (h .0) (h .1) (differ-same _ _ (h .2)));
       view-twelve = λ s b i. (is-past s b i, λ h. view-past s b i (h .0 .short) (h .0 .roomy) (equal-same _ _ (h .0 .tail)) (h .1));
       view-refused = λ s b i h. sym (no-block s b i h);
-      view-placed = placed;
+      view-inside = inside;
       remover = λ b all. (λ e. has-form b all (accepted-padded b e), λ f. sym (accepts b (form-is-padded b f)));
       remover-fourteen =
           λ b all. (
@@ -84,5 +77,6 @@ kept =
             λ n. sym (refuses b (refused-not b (λ e. n (has-form b all (accepted-padded b e))))),
           );
       removed = form-removed;
+      remove-within = length-within;
       remover-refused = λ b h. sym (no-part b (refused-not b h));
     }

@@ -1,8 +1,8 @@
 pub mod Scans
 pub mod Parts
+pub mod Placed
 pub mod Viewed
 pub mod Removed
-pub mod Placed
 pub mod Joined
 pub mod Forms
 pub mod Kept

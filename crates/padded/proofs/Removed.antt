@@ -1,7 +1,7 @@
 -- The remover: its tests one by one, and what is known where all hold. Assumes nothing.
 use Prim.Native.Nat.{ℕ, _+_, _*_, _/_, _%_, _^_, _<_, _≤_}
-use mathlib.Core.Path.{_≡_, sym, ap, _∙_}
-use mathlib.Core.Bool.{true, false, not, _&&_}
+use mathlib.Core.Path.{_≡_, refl, sym, ap, _∙_}
+use mathlib.Core.Bool.{Bool, true, false, not, _&&_}
 use mathlib.Core.List.{List, []}
 use native.Mathlib.Omega.{arith}
 use borrow.Author.Tests.{lt-ltb, le-ltb, eq-eqb, ne-eqb, eqb-true, ltb-true, not-true, not-false}
@@ -13,7 +13,7 @@ use Rattle.units.specs.declared.InBytes.{InBytes}
 use Rattle.units.specs.Units.{bytesOfBits}
 use Rattle.units.proofs.Exact.{whole, bytes-are, refutes-no}
 use Rattle.padding.specs.Padding.{blockCount}
-use Rattle.padded.specs.Removing.{statedBits, rightCount, rightFill, isPadded, removeNumber, removePart}
+use Rattle.padded.specs.Removing.{statedBits, rightCount, rightFill, isPadded, removeNumber, removeLength, removePart}
 
 module _ (b : List ℕ) where
   pub no-bytes : length b ≡ 0 → false ≡ isPadded b
@@ -110,13 +110,21 @@ module _ (b : List ℕ) where
   unfolding removeNumber
   refuses h = rw h
 
+  pub length-of : isPadded b ≡ true → statedBits b / 8 ≡ removeLength b
+  unfolding removeLength
+  length-of h = rw h
+
+  pub no-length : isPadded b ≡ false → 0 ≡ removeLength b
+  unfolding removeLength
+  no-length h = rw h
+
   pub part-of : isPadded b ≡ true → take (statedBits b / 8) b ≡ removePart b
   unfolding removePart
-  part-of h = rw h
+  part-of h = rw (← length-of h)
 
   pub no-part : isPadded b ≡ false → [] ≡ removePart b
   unfolding removePart
-  no-part h = rw h
+  no-part h = rw (← no-length h)
 
   -- a padded message has room for its length and for itself
   pub room : isPadded b ≡ true → (8 ≤ length b) × (statedBits b / 8 ≤ length b)
@@ -128,3 +136,15 @@ module _ (b : List ℕ) where
   stated-bytes h x stated r is =
       let even = known h .bytes in
       ap (λ a. a .bytes .0) (is ∙ bytes-are (record { 0 = x }) (ap (λ n. n % 8) stated ∙ even)) ∙ ap (λ n. n / 8) stated
+
+  -- by the two answers
+  pub answered : {P : Type 0} → (isPadded b ≡ true → P) → (isPadded b ≡ false → P) → P
+  answered {P} f g = by (isPadded b) refl
+    where
+      by : (p : Bool) → isPadded b ≡ p → P
+      by true e = f e
+      by false e = g e
+
+  -- so many bytes are there
+  pub length-within : removeLength b ≤ length b
+  length-within = answered (λ h. omega (arith, room h .1, length-of h)) (λ h. omega (arith, no-length h))

@@ -14,15 +14,16 @@ use Rattle.same.specs.Same.{same}
 use Rattle.word.specs.BigEndian.{AreBytes}
 use Rattle.units.specs.declared.InBits.{InBits}
 use Rattle.units.specs.Units.{bitsOf}
-use Rattle.sm3.specs.Standard.{rest}
-use Rattle.sm3.proofs.Folding.{length-rest}
+use Rattle.standard.specs.Standard.{rest}
+use Rattle.standard.proofs.Folding.{length-rest}
 use Rattle.padding.specs.declared.Written.{Written}
 use Rattle.padding.specs.Padding.{longest, zeros, padding, blockCount}
 use Rattle.padding.specs.Writing.{tailOf, tailSize, tailAnswer}
 use Rattle.padding.proofs.Tails.{length-bits, fills, fills-blocks, cases, refused-long, refused-size, accepts, accepted-when}
 use Rattle.padding.proofs.Wholes.{lastPart, last-part}
 use Rattle.padded.specs.Removing.{statedBits, rightFill}
-use Rattle.padded.specs.Viewing.{viewNumber, viewPart, block}
+use Rattle.padded.specs.Viewing.{viewNumber, viewPart}
+use Rattle.padded.proofs.Placed.{in-neither, in-message, in-buffer}
 use Rattle.padded.proofs.Parts.{by-parts}
 
 -- a tail against what the writer puts there: the message's last bytes, the fill and the stated length
@@ -157,14 +158,14 @@ module _ (s b : List ℕ) (i : ℕ) where
 
   pub no-part : (viewNumber s b i ≡ accepted → ⊥) → [] ≡ viewPart s b i
   unfolding viewPart
-  no-part h = simp (ne-eqb (viewNumber s b i) accepted h)
+  no-part h = rw (← (in-neither s b i h))
 
   module _ (ok : viewNumber s b i ≡ accepted) where
     pub inside : i < length s / 64 → take (64 * i + 64 - 64 * i) (drop (64 * i) s) ≡ viewPart s b i
-    unfolding viewPart block
+    unfolding viewPart
     inside h =
         let size : 64 * i + 64 - 64 * i ≡ 64 = omega arith in
-        rw (eq-eqb (viewNumber s b i) accepted ok, lt-ltb i (length s / 64) h, size)
+        rw (← (in-message s b i ok h), size)
 
     module _ (h : length s / 64 ≤ i) where
       pub tail-room : 64 * (i - length s / 64) + 64 ≤ length b
@@ -172,7 +173,7 @@ module _ (s b : List ℕ) (i : ℕ) where
       tail-room = let known = viewed ok in omega (arith, fills-blocks (length s))
 
       pub in-tail : take (64 * (i - length s / 64) + 64 - 64 * (i - length s / 64)) (drop (64 * (i - length s / 64)) b) ≡ viewPart s b i
-      unfolding viewPart block
+      unfolding viewPart
       in-tail =
           let size : 64 * (i - length s / 64) + 64 - 64 * (i - length s / 64) ≡ 64 = omega arith in
-          rw (eq-eqb (viewNumber s b i) accepted ok, le-ltb i (length s / 64) h, size)
+          rw (← (in-buffer s b i ok h), size)

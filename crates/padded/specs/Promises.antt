@@ -8,8 +8,8 @@ use Rattle.refusal.specs.Table.{accepted, too-long, wrong-size, other-tail, no-
 use Rattle.word.specs.BigEndian.{AreBytes}
 use Rattle.padding.specs.Padding.{longest, padded, blockCount}
 use Rattle.padding.specs.Writing.{tailOf, tailSize}
-use Rattle.padded.specs.Viewing.{viewNumber, viewPart, viewPlace, partAt}
-use Rattle.padded.specs.Removing.{removeNumber, removePart}
+use Rattle.padded.specs.Viewing.{viewNumber, viewPart, viewPlace, inMessage}
+use Rattle.padded.specs.Removing.{removeNumber, removeLength, removePart}
 
 -- the first n viewed blocks, joined
 unfoldable pub viewedBlocks : ℕ → List ℕ → List ℕ → List ℕ
@@ -43,11 +43,13 @@ pub record Promises : Type 0 where
       ↔ ((length message ≤ longest) × (tailSize (length message) ≤ length buffer) × (take (tailSize (length message)) buffer ≡ tailOf message → ⊥))
   pub view-twelve : (message buffer : List ℕ) (i : ℕ) → (viewNumber message buffer i ≡ no-such-block) ↔ (Tailed message buffer × (blockCount (length message) ≤ i))
   pub view-refused : (message buffer : List ℕ) (i : ℕ) → (viewNumber message buffer i ≡ accepted → ⊥) → viewPart message buffer i ≡ []
-  -- the part is at its place
-  pub view-placed : (message buffer : List ℕ) (i : ℕ) → viewPart message buffer i ≡ partAt message buffer (viewPlace message buffer i)
+  -- "part of the message where it lies wholly inside it", and only there
+  pub view-inside : (message buffer : List ℕ) (i : ℕ) → viewNumber message buffer i ≡ accepted → (viewPlace message buffer i .which ≡ inMessage) ↔ (64 * (i + 1) ≤ length message)
   -- bytes are accepted by the remover exactly when they are the padded form of some message of at most 2^61 - 1 bytes, else 14
   pub remover : (bytes : List ℕ) → AreBytes bytes → (removeNumber bytes ≡ accepted) ↔ PaddedForm bytes
   pub remover-fourteen : (bytes : List ℕ) → AreBytes bytes → (removeNumber bytes ≡ not-padded) ↔ (PaddedForm bytes → ⊥)
   -- and the answer is that message; it is empty where the call is refused
   pub removed : (bytes : List ℕ) (is : PaddedForm bytes) → removePart bytes ≡ is .message
+  -- so many bytes are there
+  pub remove-within : (bytes : List ℕ) → removeLength bytes ≤ length bytes
   pub remover-refused : (bytes : List ℕ) → (removeNumber bytes ≡ accepted → ⊥) → removePart bytes ≡ []

@@ -28,6 +28,9 @@ isPadded bytes = ltb 0 (length bytes) && eqb (length bytes % 64) 0 && rightCount
 unfoldable pub removeNumber : List ℕ → ℕ
 removeNumber bytes = cond (isPadded bytes) accepted not-padded
 
--- "The answer is the first m bytes, as a part of what was lent"
+-- "The answer is the first m bytes, as a part of what was lent": how many, "empty part" where the number is a refusal; and the bytes
+unfoldable pub removeLength : List ℕ → ℕ
+removeLength bytes = cond (isPadded bytes) (statedBits bytes / 8) 0
+
 unfoldable pub removePart : List ℕ → List ℕ
-removePart bytes = cond (isPadded bytes) (take (statedBits bytes / 8) bytes) []
+removePart bytes = take (removeLength bytes) bytes

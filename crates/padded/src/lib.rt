@@ -16,8 +16,8 @@ ghost use lib.ListN.{length};
 ghost use Rattle.same.specs.Same.{same};
 ghost use Rattle.padding.specs.Padding.{longest};
 ghost use Rattle.padding.specs.Writing.{tailOf, tailSize};
-ghost use Rattle.padded.specs.Viewing.{viewNumber, viewPart, viewPlace};
-ghost use Rattle.padded.specs.Removing.{statedBits, rightFill, isPadded, removeNumber, removePart};
+ghost use Rattle.padded.specs.Viewing.{viewNumber, viewPart, viewPlace, viewAddress};
+ghost use Rattle.padded.specs.Removing.{statedBits, rightFill, isPadded, removeNumber, removeLength, removePart};
 
 // A part by its place, for a host that cannot be handed a slice: which of the two it is part of, from which byte, and how many.
 #[repr(C)]
@@ -96,6 +96,7 @@ pub fn view_number(message: &[u8], buffer: &[u8], i: usize) -> u8
 // Block i: a part of the message where it lies wholly inside it, else a part of the tail buffer. Nothing is copied.
 pub fn view_part<'a>(message: &'a [u8], buffer: &'a [u8], i: usize) -> &'a [u8]
     ensures { λ r. ⌜ now r ≡ viewPart (now (message .entry)) (now (buffer .entry)) i ⌝ }
+    ensures { λ r. ⌜ r .ptr ≡ viewAddress (message .entry) (buffer .entry) i ⌝ }
 {
     if view_number(message, buffer, i) != ACCEPTED {
         return &buffer[..0];
@@ -168,14 +169,22 @@ pub fn remove_number(bytes: &[u8]) -> u8
     }
 }
 
+// How many of the bytes are the message: it begins at the first of them.
+pub fn remove_length(bytes: &[u8]) -> usize
+    ensures { λ r. ⌜ r ≡ removeLength (now (bytes .entry)) ⌝ }
+{
+    if !is_padded(bytes) {
+        return 0;
+    }
+    let stated = Bits(stated_bits(bytes)).bytes();
+    stated.bytes.0 as usize
+}
+
 // The message, as a part of what was lent.
 pub fn remove_part(bytes: &[u8]) -> &[u8]
     ensures { λ r. ⌜ now r ≡ removePart (now (bytes .entry)) ⌝ }
+    ensures { λ r. ⌜ r .ptr ≡ bytes .entry .ptr ⌝ }
 {
-    if !is_padded(bytes) {
-        return &bytes[..0];
-    }
-    let stated = Bits(stated_bits(bytes)).bytes();
-    let m = stated.bytes.0 as usize;
+    let m = remove_length(bytes);
     &bytes[..m]
 }

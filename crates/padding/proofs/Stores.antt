@@ -1,12 +1,12 @@
 -- Stores one after the other: what the list is to be, said of the list as it stands and of what is still to be stored. Assumes nothing.
 use Prim.Native.Nat.{ℕ, zero, suc, _+_, _-_, _/_, _%_, _<_, _≤_}
-use mathlib.Core.Path.{_≡_, sym, ap, _∙_}
+use mathlib.Core.Path.{_≡_, sym, ap}
 use mathlib.Core.List.{List, [], _∷_, _++_, append-assoc}
 use native.Mathlib.Nat.{add-suc, add-zero, sub-self}
 use native.Mathlib.Numerals.{add-one}
 use native.Mathlib.Omega.{arith}
-use lib.ListN.{length, take, drop, getD, set, replicate, take-append-drop, length-append}
-use lib.Seq.{length-take-le, take-at, drop-at, drop-drop, drop-cons, take-suc-set, drop-length, drop-set-lt, take-set-le, getD-set-same, lt-length-set}
+use lib.ListN.{length, take, drop, set, replicate, take-append-drop, length-append}
+use lib.Seq.{length-take-le, take-at, drop-at, drop-drop, drop-cons, take-suc-set, drop-set-lt, take-set-le, getD-set-same, lt-length-set}
 use Rattle.word.specs.BigEndian.{bigEndian}
 
 -- v at i, with the rest to come up to `to`
@@ -15,16 +15,6 @@ stored : (d : List ℕ) (i to v : ℕ) (rest : List ℕ) → i < length d → i 
 stored d i to v rest hd ht =
     rw (add-one, take-suc-set d i v hd, drop-set-lt to d i v ht)
     (sym (append-assoc (take i d) (v ∷ []) (rest ++ drop to d)))
-
--- a copy: one byte more
-pub copied : (s d : List ℕ) (i : ℕ) → i < length s → i < length d
-    → take i d ++ (drop i s ++ drop (length s) d)
-    ≡ take (i + 1) (set d i (getD s i 0)) ++ (drop (i + 1) s ++ drop (length s) (set d i (getD s i 0)))
-copied s d i hs hd =
-    rw (drop-cons s i 0 hs) (stored d i (length s) (getD s i 0) (drop (suc i) s) hd hs ∙ rw (add-one i))
-
-pub all-copied : (s d : List ℕ) (i : ℕ) → i ≡ length s → take i d ++ (drop i s ++ drop (length s) d) ≡ d
-all-copied s d i e = rw (e, drop-length s) (take-append-drop (length s) d)
 
 -- zeros: one more
 pub cleared : (d : List ℕ) (i to : ℕ) → i < to → i < length d

@@ -44,10 +44,6 @@ pub fills-blocks : (m : ℕ) → 64 * (m / 64) + tailSize m ≡ 64 * blockCount 
 unfolding blockCount
 fills-blocks m = ⊎-elim (λ one. omega arith) (λ two. omega arith) (one-or-two m)
 
--- 64 or 128
-pub whole-blocks : (m : ℕ) → tailSize m % 64 ≡ 0
-whole-blocks m = ⊎-elim (λ one. omega arith) (λ two. omega arith) (one-or-two m)
-
 pub at-most-128 : (m : ℕ) → tailSize m ≤ 128
 at-most-128 m = ⊎-elim (λ one. omega arith) (λ two. omega arith) (one-or-two m)
 

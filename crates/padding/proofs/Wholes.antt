@@ -7,8 +7,10 @@ use borrow.Author.Tests.{eq-eqb, ne-eqb}
 use lib.ListN.{length, take, drop, length-append, length-take, length-drop, take-append-drop}
 use lib.Seq.{take-all, take-at, drop-append-add, drop-drop}
 use Rattle.refusal.specs.Table.{accepted}
-use Rattle.sm3.specs.Standard.{rest}
-use Rattle.sm3.proofs.Folding.{length-rest}
+use Rattle.copy.specs.Copy.{copied}
+use Rattle.copy.proofs.Copied.{copied-front}
+use Rattle.standard.specs.Standard.{rest}
+use Rattle.standard.proofs.Folding.{length-rest}
 use Rattle.padding.specs.declared.Written.{Written}
 use Rattle.padding.specs.Padding.{padding, padded, blockCount}
 use Rattle.padding.specs.Writing.{tailOf, tailSize, tailAnswer, tailAfter, written, bufferAfter}
@@ -32,30 +34,33 @@ module _ (s : List ℕ) where
   unwritten buffer answer is h = simp (ne-eqb (tailAnswer (length s) (length buffer) .no) accepted (λ z. h (ap (λ r. r .no) is ∙ z)))
 
   module _ (buffer : List ℕ) (answer : Written) (is : answer ≡ tailAnswer (length s) (length buffer)) (ok : answer .no ≡ accepted) where
-    pub last-fits : length lastPart ≤ length buffer
+    last-fits : length lastPart ≤ length buffer
     last-fits = let known = accepted-when (length s) (length buffer) answer is ok in omega (arith, last-length, fills (length s))
 
-    module _ (copied : List ℕ) (now : copied ≡ lastPart ++ drop (length lastPart) buffer) where
-      as-long : length copied ≡ length buffer
-      as-long = rw now (omega (arith, length-append lastPart (drop (length lastPart) buffer), length-drop (length lastPart) buffer, last-fits))
+    module _ (laid : List ℕ) (so : laid ≡ copied buffer 0 lastPart) where
+      lies : laid ≡ lastPart ++ drop (length lastPart) buffer
+      lies = so ∙ copied-front buffer lastPart last-fits
 
-      in-front : take (length s % 64) copied ≡ rest s
-      in-front = rw now (take-at lastPart (drop (length lastPart) buffer) (length s % 64) last-length ∙ last-part)
+      as-long : length laid ≡ length buffer
+      as-long = rw lies (omega (arith, length-append lastPart (drop (length lastPart) buffer), length-drop (length lastPart) buffer, last-fits))
 
-      later : drop (tailSize (length s)) copied ≡ drop (tailSize (length s)) buffer
+      in-front : take (length s % 64) laid ≡ rest s
+      in-front = rw lies (take-at lastPart (drop (length lastPart) buffer) (length s % 64) last-length ∙ last-part)
+
+      later : drop (tailSize (length s)) laid ≡ drop (tailSize (length s)) buffer
       later =
           let k = tailSize (length s) - length lastPart in
           let parts : tailSize (length s) ≡ length lastPart + k = omega (arith, last-length, fills (length s)) in
-          rw (parts, now, drop-append-add lastPart (drop (length lastPart) buffer) k, drop-drop k (length lastPart) buffer)
+          rw (parts, lies, drop-append-add lastPart (drop (length lastPart) buffer) k, drop-drop k (length lastPart) buffer)
 
-      pub written-is : tailAnswer (length s) (length copied) ≡ written s buffer
+      pub written-is : tailAnswer (length s) (length laid) ≡ written s buffer
       unfolding written
       written-is = rw as-long
 
-      pub written-leaves : tailAfter (length s) copied ≡ bufferAfter s buffer
+      pub written-leaves : tailAfter (length s) laid ≡ bufferAfter s buffer
       unfolding bufferAfter tailOf written
       written-leaves =
-          after (length s) copied answer (is ∙ ap (tailAnswer (length s)) (sym as-long)) ok
+          after (length s) laid answer (is ∙ ap (tailAnswer (length s)) (sym as-long)) ok
           ∙ rw (in-front, later, eq-eqb (tailAnswer (length s) (length buffer) .no) accepted (ap (λ r. r .no) (sym is) ∙ ok))
           (sym (append-assoc (rest s) (padding (length s)) (drop (tailSize (length s)) buffer)))
 

@@ -5,7 +5,7 @@ use mathlib.Core.Bool.{cond}
 use lib.Dec.{ltb, eqb}
 use lib.ListN.{length, take, drop}
 use Rattle.refusal.specs.Table.{accepted, too-long, wrong-size}
-use Rattle.sm3.specs.Standard.{rest}
+use Rattle.standard.specs.Standard.{rest}
 use Rattle.padding.specs.Padding.{longest, padding}
 use Rattle.padding.specs.declared.Written.{Written}
 

@@ -5,18 +5,6 @@ ghost use Prim.Native.Nat.{_+_, _-_, _≤_, _<_};
 ghost use lib.ListN.{length, take, drop, replicate};
 ghost use Rattle.word.specs.BigEndian.{bigEndian};
 
-// Copies all of src to the front of dst.
-pub(crate) fn copy(src: &[u8], dst: &mut [u8])
-    requires { ⌜ length (now src) ≤ length (now dst) ⌝ }
-    ensures { λ _. ⌜ now (dst .exit) ≡ now (src .entry) ++ drop (length (now (src .entry))) (now (dst .entry)) ⌝ }
-{
-    let mut i = 0;
-    while i < src.len() {
-        dst[i] = src[i];
-        i += 1;
-    }
-}
-
 // Zeros from one place up to another.
 pub(crate) fn clear(dst: &mut [u8], from: usize, to: usize)
     requires { ⌜ (from ≤ to) × (to ≤ length (now dst)) ⌝ }

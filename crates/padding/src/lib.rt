@@ -38,13 +38,14 @@ pub fn tail_answer(m: Bytes, room: usize) -> Written
     ensures { λ r. ⌜ r ≡ tailAnswer (m .0) room ⌝ }
 {
     let length = m.bits();
-    if !length.exact {
+    let exact = length.exact;
+    let count = tail_size(m);
+    if !exact {
         return Written {
             no: TOO_LONG,
             count: 0,
         };
     }
-    let count = tail_size(m);
     if room < count {
         return Written {
             no: WRONG_SIZE,
@@ -83,6 +84,6 @@ pub fn write(message: &[u8], buffer: &mut [u8]) -> Written
         return foreseen;
     }
     let whole = message.len() / 64 * 64;
-    bytes::copy(&message[whole..], buffer);
+    copy::bytes(buffer, 0, &message[whole..]);
     pad(buffer, m)
 }

@@ -8,7 +8,7 @@ use borrow.Author.Tests.{eqb-true}
 use Rattle.same.proofs.Tests.{first, second}
 use Rattle.word.specs.Rotation.{_⊞_, _<<<_}
 use Rattle.word.specs.BigEndian.{bigEndian, numberFrom, numberOf}
-use Rattle.sm3.specs.Standard.{T, FF, GG, P0, P1, split, nextWord, extended, expansion, W′, roundOn, round, rounds}
+use Rattle.standard.specs.Standard.{T, FF, GG, P0, P1, split, nextWord, extended, expansion, W′, roundOn, round, rounds}
 use Rattle.padding.specs.Padding.{zeros, padding, padded, blockCount}
 use Rattle.rules.specs.Rules.{loopRule}
 use Rattle.promises.specs.Examples.{Example, abc, abcRound0, loopNumber, examples, Hold}

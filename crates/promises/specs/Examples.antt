@@ -6,8 +6,8 @@ use mathlib.Core.List.{List, [], _∷_}
 use mathlib.Core.Bool.{cond}
 use lib.ListN.{getD}
 use Rattle.refusal.specs.Table.{accepted, bad-loop}
-use Rattle.sm3.specs.declared.Words.{Words}
-use Rattle.sm3.specs.Standard.{IV, P0, P1, expansion, W′, rounds}
+use Rattle.standard.specs.declared.Words.{Words}
+use Rattle.standard.specs.Standard.{IV, P0, P1, expansion, W′, rounds}
 use Rattle.padding.specs.Padding.{padded, blockCount}
 use Rattle.rules.specs.Rules.{loopRule}
 

@@ -1,6 +1,2 @@
-pub mod Folding
-pub mod Choice
-pub mod Expansion
-pub mod Rounds
-pub mod HashValue
-pub mod Kept
+pub mod Laid
+pub mod Walks

@@ -1,6 +1,7 @@
 // The small examples of document 01 that are run and not proved: the digest of "abc", and a state that has taken 2^61 - 1 bytes.
 use hash::Hash;
 use libc::STDOUT_FILENO;
+use units::LONGEST;
 
 fn print(text: &[u8]) {
     io::write_all(STDOUT_FILENO, text);
@@ -27,7 +28,7 @@ fn print_byte(b: u8) {
 fn full() -> Hash {
     Hash {
         words: Hash::START,
-        total: 0x1fff_ffff_ffff_ffff,
+        total: LONGEST,
         tail: [0; 64],
     }
 }

@@ -1,13 +1,7 @@
 -- The crate's promises, kept. Assumes nothing.
-use Prim.Native.Nat.{ℕ, _*_, _-_, _/_, _%_, _^_, _≤_, _<_}
-use mathlib.Core.Path.{_≡_, refl, sym, ap, _∙_}
-use mathlib.Core.Bool.{Bool, true, false, true≢false}
-use native.Mathlib.Omega.{arith}
+use Prim.Native.Nat.{_-_}
+use mathlib.Core.Path.{ap}
 use native.Mathlib.Nat.{mul-comm}
-use Rattle.units.specs.Units.{inBits, inBytes, inFrames, bitsOf, bytesOfBits, framesOf, bytesOfFrames}
-use Rattle.units.specs.declared.Bits.{Bits}
-use Rattle.units.specs.declared.Bytes.{Bytes}
-use Rattle.units.specs.declared.Frames.{Frames}
 use Rattle.units.specs.Promises.{Promises}
 use Rattle.units.proofs.Exact.{
   bits-are,

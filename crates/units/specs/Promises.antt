@@ -1,8 +1,8 @@
 -- "conversions that are proved exact": each has its exact value exactly when there is one, and the way back gives the same length.
-use Prim.Native.Nat.{ℕ, _*_, _-_, _%_, _^_, _≤_, _<_}
+use Prim.Native.Nat.{_*_, _-_, _%_, _^_, _≤_, _<_}
 use mathlib.Core.Path.{_≡_}
 use mathlib.Core.Logic.{_↔_}
-use mathlib.Core.Bool.{true, false}
+use mathlib.Core.Bool.{true}
 use Rattle.units.specs.Units.{inBits, inBytes, inFrames, noBits, noBytes, noFrames, bitsOf, bytesOfBits, framesOf, bytesOfFrames}
 use Rattle.units.specs.declared.Bits.{Bits}
 use Rattle.units.specs.declared.Bytes.{Bytes}

@@ -1,7 +1,7 @@
 -- "A length in bits, a length in bytes and a count of sample frames are three separate units in this product. One frame is two bytes."
 -- A length has an exact value in another unit, or it is said to have none: then the number is 0.
 use Prim.Native.Nat.{ℕ, _*_, _/_, _%_, _^_}
-use mathlib.Core.Bool.{Bool, true, false, cond}
+use mathlib.Core.Bool.{true, false, cond}
 use lib.Dec.{ltb, eqb}
 use Rattle.units.specs.declared.Bits.{Bits}
 use Rattle.units.specs.declared.Bytes.{Bytes}

@@ -24,10 +24,11 @@ pub struct InFrames {
     pub frames: Frames,
 }
 
-// The most bytes whose bits can be counted, and the most frames whose bytes can.
-const MOST_BYTES: u64 = 2305843009213693951;
+// The most bytes whose bits can be counted, 2^61 - 1: no message has more.
+pub const LONGEST: u64 = 0x1fff_ffff_ffff_ffff;
 
-const MOST_FRAMES: u64 = 9223372036854775807;
+// The most frames whose bytes can be counted: 2^63 - 1.
+const MOST_FRAMES: u64 = 0x7fff_ffff_ffff_ffff;
 
 impl Bits {
     pub fn bytes(self) -> InBytes
@@ -53,7 +54,7 @@ impl Bytes {
         ensures { λ r. ⌜ r ≡ bitsOf self ⌝ }
     {
         let bytes = self.0;
-        if bytes <= MOST_BYTES {
+        if bytes <= LONGEST {
             InBits {
                 exact: true,
                 bits: Bits(bytes * 8),

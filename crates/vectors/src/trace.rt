@@ -1,6 +1,6 @@
 // What the standard's steps give for a message, through the proved library: padded blocks, expansion, rounds, chaining values, digest.
 use hash::Hash;
-use sm3::Words;
+use standard::Words;
 
 // A message of a data file: its bytes, and how many there are.
 pub struct Message {
@@ -91,7 +91,7 @@ fn row(v: Words, w: &[u32], n: usize) -> Words {
         if w.len() <= j + 4 {
             return r;
         }
-        let next = sm3::round(j as u32, r, w[j], w[j] ^ w[j + 4]);
+        let next = standard::round(j as u32, r, w[j], w[j] ^ w[j + 4]);
         r = next;
         j += 1;
     }

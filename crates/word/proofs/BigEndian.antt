@@ -1,12 +1,12 @@
 -- The laws of bytes, most significant first. Assumes nothing.
-use mathlib.Core.Path.{_≡_, refl, sym, ap, ap₂, _∙_, subst}
+use mathlib.Core.Path.{_≡_, refl, sym, ap, ap₂, _∙_}
 use mathlib.Core.List.{List, [], _∷_, _++_}
 use Prim.Native.Nat.{ℕ, zero, suc, _+_, _*_, _/_, _%_, _^_, _<_, suc-le-suc}
-use native.Mathlib.Nat.{mod-one, div-one, div-div-eq-div-mul, pow-suc, pow-succ', mod-lt, mod-eq-of-lt, zero-lt-suc, add-comm}
+use native.Mathlib.Nat.{mod-one, div-one, div-div-eq-div-mul, pow-suc, pow-succ', zero-lt-suc}
 use native.Mathlib.Numerals.{add-one}
 use native.Mathlib.Omega.{arith}
 use lib.Arith.{mod-mul, digits-div, digits-mod}
-use lib.ListN.{length, getD, length-append}
+use lib.ListN.{length, length-append}
 use Rattle.word.specs.BigEndian.{bigEndian, numberFrom, numberOf, AreBytes}
 
 pub length-bigEndian : (n x : ℕ) → length (bigEndian n x) ≡ n

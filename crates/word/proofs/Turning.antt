@@ -1,7 +1,7 @@
 -- A number of m + n bits turned by n places: its n high bits go to the low end. Every law of rotation comes from here, whatever the widths.
 -- Assumes nothing.
-use mathlib.Core.Path.{_≡_, refl, sym, ap, ap₂, _∙_, subst}
-use Prim.Native.Nat.{ℕ, zero, suc, _+_, _*_, _/_, _%_, _^_, _<_}
+use mathlib.Core.Path.{_≡_, sym, ap, ap₂, _∙_, subst}
+use Prim.Native.Nat.{ℕ, suc, _+_, _*_, _/_, _%_, _^_, _<_}
 use native.Mathlib.Nat.{add-mul, add-assoc, mul-assoc, mul-one, add-zero, zero-add, mod-lt, mod-one, div-one, mod-eq-of-lt, div-eq-of-lt, div-add-mod', add-right-cancel, zero-mul, mul-lt-mul-of-pos-right, add-comm, pow-suc}
 use native.Mathlib.Numerals.{add-one}
 use lib.Arith.{digits-mod, digits-lt}

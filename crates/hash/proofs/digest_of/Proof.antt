@@ -5,8 +5,8 @@ use Prim.Native.Nat.{ℕ}
 use denote.Ref.{now}
 use lib.Seq.{length-take-le}
 use Rattle.refusal.specs.Table.{accepted}
-use Rattle.sm3.specs.declared.Words.{Words}
-use Rattle.sm3.specs.Standard.{folded, hashValue}
+use Rattle.standard.specs.declared.Words.{Words}
+use Rattle.standard.specs.Standard.{folded, hashValue}
 use Rattle.padding.specs.Writing.{tailOf}
 use Rattle.hash.proofs.Ending.{Holds, write-refuses, message-holds, message-digest}
 use borrow.Author.Needs.{needs}
@@ -21,34 +21,23 @@ held c = message-holds (message c) _ _ (c .write .ensures .0) (c .write .ensures
 
 returns : tie.Need-returns
 returns c =
-    let at-write = c .before .before .before in
+    let at-write = c .before .before .before .before in
     c .no-digest .ensures
     ∙ write-refuses (message at-write) _ _ (at-write .write .ensures .0) (at-write .write .ensures .1) (c .before .if1 .taken)
 
 array-share-prefix-last : tie.Need-array-share-prefix-last
-array-share-prefix-last c = held (c .before .before .before) (c .before .if1 .left) .within
+array-share-prefix-last c = held (c .before .before .before .before) (c .before .if1 .left) .within
 
 slice-aggregate-ended : tie.Need-slice-aggregate-ended
-slice-aggregate-ended c = sym (length-take-le _ _ (held (c .before .before .before .before) (c .before .before .if1 .left) .within))
+slice-aggregate-ended c = sym (length-take-le _ _ (held (c .before .before .before .before .before) (c .before .before .if1 .left) .within))
 
 returns-2 : tie.Need-returns-2
 returns-2 c =
-    let at-write = c .before .before .before .before .before in
+    let at-write = c .before .before .before .before .before .before in
     let ok = c .before .before .before .if1 .left in
     c .ended .ensures
     ∙ ap₂ (λ (w : Words) (s : List ℕ). record { no = accepted; bytes = hashValue (folded w s) }) (c .before .before .fold .ensures) (held at-write ok .are)
     ∙ message-digest (message at-write) _ _ (at-write .write .ensures .0) (at-write .write .ensures .1) ok
 
 pub digest-of-spec : {M : Type 1} → statement M
-digest-of-spec =
-    tie.close
-    (tie.spec
-    (λ c. search needs)
-    (λ c κs. search needs)
-    (λ c κs. search needs)
-    returns
-    (λ c κs. search needs)
-    array-share-prefix-last
-    slice-aggregate-ended
-    (λ c κs. search needs)
-    returns-2)
+digest-of-spec = tie.close (search (tie.spec, returns, array-share-prefix-last, slice-aggregate-ended, returns-2, needs))

@@ -3,7 +3,7 @@ use mathlib.Core.Path.{ap, _∙_}
 use mathlib.Core.List.{List}
 use Prim.Native.Nat.{ℕ}
 use Rattle.refusal.specs.Table.{accepted}
-use Rattle.sm3.specs.Standard.{hashValue}
+use Rattle.standard.specs.Standard.{hashValue}
 use borrow.Author.Needs.{needs}
 use Rattle.hash.proofs.ended.Statement.{statement}
 use Rattle.hash.proofs.ended.Tie as tie

@@ -1,10 +1,9 @@
 -- `kept_of` folds the whole blocks and keeps the rest. Assumes nothing.
 use mathlib.Core.Path.{refl, ap, _∙_}
 use denote.Ref.{now}
-use Rattle.sm3.specs.Standard.{rest}
+use Rattle.standard.specs.Standard.{rest}
 use Rattle.hash.specs.State.{asTail}
-use Rattle.hash.proofs.Pasting.{to-end}
-use Rattle.hash.proofs.State.{parts}
+use Rattle.hash.proofs.State.{parts, to-end}
 use borrow.Author.Needs.{needs}
 use Rattle.hash.proofs.kept_of.Statement.{statement}
 use Rattle.hash.proofs.kept_of.Tie as tie

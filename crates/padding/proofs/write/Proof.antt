@@ -2,7 +2,7 @@
 use mathlib.Core.Path.{_∙_}
 use borrow.Author.Needs.{needs}
 use Rattle.padding.specs.Writing.{written}
-use Rattle.padding.proofs.Wholes.{unwritten, last-fits, written-is, written-leaves}
+use Rattle.padding.proofs.Wholes.{unwritten, written-is, written-leaves}
 use Rattle.padding.proofs.write.Statement.{statement}
 use Rattle.padding.proofs.write.Tie as tie
 
@@ -11,13 +11,6 @@ unfolding written
 returns c =
     let answer = c .before .before .tail-answer in
     (answer .ensures, unwritten _ _ (answer .result) (answer .ensures) (c .if1 .taken))
-
-copy-requires : tie.Need-copy-requires
-copy-requires c κs =
-    let test = c .before .before in
-    let answer = test .before .before .tail-answer in
-    let start = test .before .before .before .before .before in
-    last-fits (start .args .message .now) (start .args .buffer .now) (answer .result) (answer .ensures) (test .if1 .left)
 
 returns-2 : tie.Need-returns-2
 returns-2 c =
@@ -28,9 +21,9 @@ returns-2 c =
     let answer = test .before .before .tail-answer in
     let message = start .args .message .now in
     let buffer = start .args .buffer .now in (
-      pad .pad .ensures .0 ∙ written-is message buffer (answer .result) (answer .ensures) (test .if1 .left) (copy .copy .last .1 .0) (copy .copy .ensures),
-      pad .pad .ensures .1 ∙ written-leaves message buffer (answer .result) (answer .ensures) (test .if1 .left) (copy .copy .last .1 .0) (copy .copy .ensures),
+      pad .pad .ensures .0 ∙ written-is message buffer (answer .result) (answer .ensures) (test .if1 .left) (copy .bytes .last .0) (copy .bytes .ensures),
+      pad .pad .ensures .1 ∙ written-leaves message buffer (answer .result) (answer .ensures) (test .if1 .left) (copy .bytes .last .0) (copy .bytes .ensures),
     )
 
 pub write-spec : {M : Type 1} → statement M
-write-spec = tie.close (tie.spec (λ c κs. search needs) returns (λ c. search needs) (λ c. search needs) (λ c. search needs) (λ c. search needs) copy-requires (λ c κs. search needs) (λ c. search needs) returns-2)
+write-spec = tie.close (tie.spec (λ c κs. search needs) returns (λ c. search needs) (λ c. search needs) (λ c. search needs) (λ c. search needs) (λ c κs. search needs) (λ c κs. search needs) (λ c. search needs) returns-2)

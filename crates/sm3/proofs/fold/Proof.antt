@@ -1,10 +1,10 @@
-use mathlib.Core.Path.{_≡_, refl, sym, ap, _∙_}
+use mathlib.Core.Path.{_≡_}
 use Prim.Native.Nat.{_≤_, _-_}
 use lib.ListN.{length, drop, length-take, length-drop}
 use native.Mathlib.Omega.{arith}
-use Rattle.sm3.proofs.Folding.{walked-on, walked-out}
+use Rattle.sm3.proofs.Walks.{walked-on, walked-out}
 use borrow.Author.Needs.{needs}
-use Rattle.sm3.specs.Standard.{folded}
+use Rattle.standard.specs.Standard.{folded}
 use Rattle.sm3.proofs.fold.Statement.{statement}
 use Rattle.sm3.proofs.fold.Tie as tie
 

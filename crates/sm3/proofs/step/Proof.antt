@@ -1,4 +1,4 @@
-use Rattle.sm3.specs.Standard.{W′, roundOn}
+use Rattle.standard.specs.Standard.{W′, roundOn}
 use borrow.Author.Needs.{needs}
 use Rattle.sm3.proofs.step.Statement.{statement}
 use Rattle.sm3.proofs.step.Tie as tie
@@ -10,14 +10,4 @@ returns c = c .round .ensures
 pub step-spec : {M : Type 1} → statement M
 step-spec =
     tie.close
-    (tie.spec
-    (λ c. search needs)
-    (λ c. search needs)
-    (λ c. search needs)
-    (λ c. search needs)
-    (λ c. search needs)
-    (λ c. search needs)
-    (λ c. search needs)
-    (λ c. search needs)
-    (λ c κs. search needs)
-    returns)
+    (tie.spec (λ c. search needs) (λ c. search needs) (λ c. search needs) (λ c. search needs) (λ c. search needs) (λ c. search needs) (λ c κs. search needs) returns)

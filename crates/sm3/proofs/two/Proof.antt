@@ -1,6 +1,6 @@
 use mathlib.Core.Path.{ap, _∙_}
 use Prim.Native.Nat.{_+_}
-use Rattle.sm3.specs.Standard.{roundOn}
+use Rattle.standard.specs.Standard.{roundOn}
 use borrow.Author.Needs.{needs}
 use Rattle.sm3.proofs.two.Statement.{statement}
 use Rattle.sm3.proofs.two.Tie as tie

@@ -4,15 +4,13 @@ use mathlib.Core.Bool.{true}
 use Prim.Native.Nat.{ℕ}
 use lib.Seq.{length-take-le}
 use Rattle.refusal.specs.Table.{accepted}
-use Rattle.sm3.specs.Standard.{folded, hashValue}
+use Rattle.standard.specs.Standard.{folded, hashValue}
 use Rattle.padding.specs.Padding.{padding}
 use Rattle.hash.specs.State.{kept, inOrder}
 use Rattle.hash.specs.declared.Hash.{Hash}
 use Rattle.hash.proofs.Ending.{Holds, state-holds}
 use mathlib.Core.Path.{_≡_, sym, ap, _∙_}
-use native.Mathlib.Omega.{arith}
 use borrow.Author.Tests.{not-true, not-false}
-use lib.ListN.{length}
 use Rattle.hash.proofs.Cutting.{finish-spoilt, finish-folds}
 use borrow.Author.Needs.{needs}
 use Rattle.hash.proofs.Hash.finish.Statement.{statement}
@@ -28,15 +26,10 @@ order c = sym (c .before .before .before .before .before .before .before .before
 held : (c : tie.After-pad) → Holds (c .pad .last .0) (c .pad .result .count) (kept (state c) ++ padding (state c .total))
 held c =
     state-holds (state c) (order c) _ _ _
-    (c .before .before .before .put .ensures) (c .pad .ensures .0) (c .pad .ensures .1)
+    (c .before .before .before .bytes .ensures) (c .pad .ensures .0) (c .pad .ensures .1)
 
 returns : tie.Need-returns
 returns c = c .no-digest .ensures ∙ sym (finish-spoilt _ (sym (c .before .before .in-order .ensures) ∙ not-true _ (c .before .if1 .taken)))
-
-put-requires : tie.Need-put-requires
-put-requires c κs =
-    let l : length (c .before .before .before .before .before .args .self .tail) ≡ 64 = search needs in
-    omega arith
 
 array-share-prefix-last : tie.Need-array-share-prefix-last
 array-share-prefix-last c = held (c .before) .within
@@ -60,7 +53,7 @@ finish-spec =
     returns
     (λ c. search needs)
     (λ c. search needs)
-    put-requires
+    (λ c κs. search needs)
     (λ c. search needs)
     (λ c κs. search needs)
     array-share-prefix-last

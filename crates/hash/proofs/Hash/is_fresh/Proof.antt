@@ -1,4 +1,7 @@
 -- `is_fresh` decides whether a state is the fresh one. Assumes nothing.
+use mathlib.Core.Path.{ap₂}
+use mathlib.Core.Bool.{Bool, _&&_}
+use lib.Dec.{eqb}
 use Rattle.hash.specs.State.{isFresh}
 use borrow.Author.Needs.{needs}
 use Rattle.hash.proofs.Hash.is_fresh.Statement.{statement}
@@ -6,7 +9,9 @@ use Rattle.hash.proofs.Hash.is_fresh.Tie as tie
 
 returns : tie.Need-returns
 unfolding isFresh
-returns c = cc (c .before .before .before .before .same-words .ensures, c .bytes .ensures)
+returns c =
+    let total = c .before .before .before .before .before .before .args .self .total in
+    ap₂ (λ (p q : Bool). p && eqb total 0 && q) (c .before .before .before .before .same-words .ensures) (c .bytes .ensures)
 
 pub is-fresh-spec : {M : Type 1} → statement M
 is-fresh-spec =

@@ -2,14 +2,12 @@
 use mathlib.Core.Path.{refl, sym, ap, ap₂, _∙_}
 use mathlib.Core.List.{List}
 use Prim.Native.Nat.{ℕ, _-_, _%_}
-use Rattle.sm3.specs.Standard.{folded, rest}
+use Rattle.standard.specs.Standard.{folded, rest}
 use Rattle.hash.specs.State.{asTail}
-use native.Mathlib.Omega.{arith}
 use denote.Ref.{now}
 use lib.Seq.{length-take-le}
-use Rattle.hash.proofs.State.{parts, length-tail}
+use Rattle.hash.proofs.State.{parts, to-end}
 use Rattle.hash.proofs.Taking.{taken-whole, taken-short, taken-long}
-use Rattle.hash.proofs.Pasting.{to-end}
 use borrow.Author.Needs.{needs}
 use Rattle.hash.proofs.Hash.taken.Statement.{statement}
 use Rattle.hash.proofs.Hash.taken.Tie as tie
@@ -19,21 +17,13 @@ returns c =
     let start = c .before .before .before .before .before .before in
     c .kept-of .ensures ∙ sym (taken-whole (start .args .self) (start .pre .0) (now (start .args .piece)) (c .before .if1 .taken))
 
-put-requires : tie.Need-put-requires
-put-requires c κs = omega (arith, length-tail (c .before .before .before .before .before .before .before .before .args .self) (c .before .before .before .before .before .before .before .before .pre .0))
-
 returns-2 : tie.Need-returns-2
 returns-2 c =
     let start = c .before .before .before .before .before .before .before .before .before .before in
-    parts refl refl (c .before .put .ensures) ∙ sym (taken-short (start .args .self) (start .pre .0) (now (start .args .piece)) (c .before .before .before .if2 .taken))
+    parts refl refl (c .before .bytes .ensures) ∙ sym (taken-short (start .args .self) (start .pre .0) (now (start .args .piece)) (c .before .before .before .if2 .taken))
 
-slice-aggregate-put-3 : tie.Need-slice-aggregate-put-3
-slice-aggregate-put-3 c = sym (length-take-le _ _ (c .before .before .if2 .left))
-
-put-requires-2 : tie.Need-put-requires-2
-put-requires-2 c κs =
-    let start = c .before .before .before .before .before .before .before .before .before in
-    omega (arith, length-tail (start .args .self) (start .pre .0), length-take-le _ (now (start .args .piece)) (c .before .before .if2 .left))
+slice-aggregate-bytes-3 : tie.Need-slice-aggregate-bytes-3
+slice-aggregate-bytes-3 c = sym (length-take-le _ _ (c .before .before .if2 .left))
 
 returns-3 : tie.Need-returns-3
 returns-3 c =
@@ -41,7 +31,7 @@ returns-3 c =
     let after = to-end (64 - start .args .self .total % 64) (now (start .args .piece)) in
     c .kept-of2 .ensures
     ∙ parts
-    (ap₂ folded (c .before .before .fold .ensures ∙ ap (folded (start .args .self .words)) (c .before .before .before .before .before .put2 .ensures)) after)
+    (ap₂ folded (c .before .before .fold .ensures ∙ ap (folded (start .args .self .words)) (c .before .before .before .before .before .bytes2 .ensures)) after)
     refl
     (ap (λ (s : List ℕ). asTail (rest s)) after)
     ∙ sym (taken-long (start .args .self) (start .pre .0) (now (start .args .piece)) (c .before .before .before .before .before .before .before .before .if2 .left))
@@ -55,11 +45,11 @@ taken-spec =
     returns
     (λ c. search needs)
     (λ c. search needs)
-    put-requires
+    (λ c κs. search needs)
     returns-2
     (λ c. search needs)
-    slice-aggregate-put-3
-    put-requires-2
+    slice-aggregate-bytes-3
+    (λ c κs. search needs)
     (λ c. search needs)
     (λ c κs. search needs)
     (λ c. search needs)

@@ -1,0 +1,6 @@
+pub mod Folding
+pub mod Choice
+pub mod Expansion
+pub mod Rounds
+pub mod HashValue
+pub mod Kept
