@@ -37,7 +37,7 @@ compared d expected =
     (cond (eqb (length expected) 32) (record { no = accepted; same = same (d .bytes) expected }) (record { no = wrong-size; same = false }))
     (record { no = d .no; same = false })
 
--- "order 10, 11 for one-call comparison"; of a state 9, 11
+-- "10, 11 for one-call comparison"; of a state 9, 11 (docs/DECISIONS.md)
 unfoldable pub compareMessage : List ℕ → List ℕ → Compared
 compareMessage message expected = compared (digest message) expected
 

@@ -1,4 +1,4 @@
--- What is promised of the hash state, over the definitions that the functions' contracts cite. Each promise stands under the sentence that it keeps.
+-- What is promised of the hash state, over the definitions that the functions' contracts cite. Quotations are document 01's, where no other paper is named.
 use mathlib.Core.Path.{_≡_}
 use mathlib.Core.Logic.{_↔_}
 use Prim.Native.Nat.{ℕ, _+_, _%_, _≤_, _<_}
@@ -25,7 +25,7 @@ InOrder =
 abbrev pub Fresh : Type 0
 Fresh = (inOrder fresh ≡ true) × ((h : Hash) → (isFresh h ≡ true) ↔ (h ≡ fresh))
 
--- any cutting: for every list of pieces whose joined length is at most 2^61 - 1, each update from the fresh state answers 0, and final answers sm3 of the joined bytes
+-- demand 2: "however it is cut": for every list of pieces whose joined length is at most 2^61 - 1, each update from the fresh state answers 0, and final answers sm3 of the joined bytes
 abbrev pub AnyCutting : Type 0
 AnyCutting =
     (pieces : List (List ℕ)) → length (joined pieces) ≤ longest
@@ -87,7 +87,7 @@ DigestRefusals =
     × ((digest message .no ≡ accepted → ⊥) → digest message .bytes ≡ replicate 32 0)
     × (length (digest message .bytes) ≡ 32)
 
--- one-call comparison, "order 10, 11": yes exactly when the expected bytes are the message's digest
+-- "10, 11 for one-call comparison": yes exactly when the expected bytes are the message's digest
 abbrev pub MessageCompared : Type 0
 MessageCompared =
     (message expected : List ℕ)

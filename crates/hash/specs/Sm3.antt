@@ -1,4 +1,4 @@
--- The digest of GB/T 32905-2016: document 003, 5.1.
+-- Demand 2: "The digest is that of GB/T 32905-2016"; document 003, 5.1.
 use Prim.Native.Nat.{ℕ}
 use mathlib.Core.List.{List}
 use Rattle.standard.specs.Standard.{IV, folded, hashValue}

@@ -10,7 +10,7 @@ use Rattle.standard.specs.Standard.{IV}
 use Rattle.padding.specs.Padding.{longest}
 use Rattle.hash.specs.declared.Hash.{Hash}
 
--- "The fresh start": the start value, nothing taken, no tail
+-- "The fresh start": the start value, nothing taken, 64 zero bytes
 unfoldable pub fresh : Hash
 fresh = record { words = IV; total = 0; tail = replicate 64 0 }
 

@@ -4,13 +4,17 @@ use mathlib.Core.Path.{_≡_, refl, sym, _∙_}
 use mathlib.Core.Bool.{true, false}
 use mathlib.Core.List.{List}
 use borrow.Author.Tests.{eqb-false}
-use lib.ListN.{length, take}
+use native.Mathlib.Omega.{arith}
+use lib.ListN.{length, take, drop, length-append}
+use lib.Seq.{take-at}
 use Rattle.refusal.specs.Table.{accepted, too-long, wrong-size, other-tail, no-such-block}
 use Rattle.same.specs.Same.{same}
 use Rattle.same.proofs.Same.{same-equal, equal-same, differ-same, same-differ}
 use Rattle.word.specs.BigEndian.{AreBytes}
 use Rattle.padding.specs.Padding.{longest, blockCount}
-use Rattle.padding.specs.Writing.{tailOf, tailSize}
+use Rattle.padding.specs.Writing.{tailOf, tailSize, tailAnswer, written, bufferAfter}
+use Rattle.padding.proofs.Tails.{accepted-when}
+use Rattle.padding.proofs.Wholes.{tail-length, tail-written}
 use Rattle.padded.specs.Viewing.{viewNumber}
 use Rattle.padded.specs.Removing.{statedBits, isPadded, removeNumber, removePart}
 use Rattle.padded.specs.Promises.{Promises, Tailed, PaddedForm}
@@ -58,10 +62,24 @@ module _ (b : List ℕ) where
   form-removed : (f : PaddedForm b) → removePart b ≡ f .message
   form-removed f = sym (part-of b (form-is-padded f)) ∙ rw (← (f .form)) (form-message (f .message) (f .short))
 
+-- what the writer wrote is the tail, and there is room for it
+writer-tail : (s b : List ℕ) → written s b .no ≡ accepted → Tailed s (bufferAfter s b)
+unfolding written
+writer-tail s b ok =
+    let known = accepted-when (length s) (length b) (tailAnswer (length s) (length b)) refl ok in
+    let size = tail-length s in
+    let after = tail-written s b ok in
+    record {
+      short = known .within;
+      roomy = rw after (omega (arith, length-append (tailOf s) (drop (tailSize (length s)) b)));
+      tail = rw after (take-at (tailOf s) (drop (tailSize (length s)) b) (tailSize (length s)) size);
+    }
+
 pub kept : Promises
 kept =
     record {
       view = block-is;
+      written-tail = writer-tail;
       views-joined = all-blocks;
       view-accepted = λ s b i. (is-there s b i, λ h. view-accepts s b i (h .0 .short) (h .0 .roomy) (equal-same _ _ (h .0 .tail)) (h .1));
       view-ten = λ s b i. (is-long s b i, view-long s b i);

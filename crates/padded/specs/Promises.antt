@@ -7,7 +7,7 @@ use lib.ListN.{length, take, drop}
 use Rattle.refusal.specs.Table.{accepted, too-long, wrong-size, other-tail, no-such-block, not-padded}
 use Rattle.word.specs.BigEndian.{AreBytes}
 use Rattle.padding.specs.Padding.{longest, padded, blockCount}
-use Rattle.padding.specs.Writing.{tailOf, tailSize}
+use Rattle.padding.specs.Writing.{tailOf, tailSize, written, bufferAfter}
 use Rattle.padded.specs.Viewing.{viewNumber, viewPart, viewPlace, inMessage}
 use Rattle.padded.specs.Removing.{removeNumber, removeLength, removePart}
 
@@ -31,6 +31,8 @@ pub record PaddedForm (bytes : List ℕ) : Type 0 where
 pub record Promises : Type 0 where
   -- block i of the padded message
   pub view : (message buffer : List ℕ) (i : ℕ) → viewNumber message buffer i ≡ accepted → viewPart message buffer i ≡ take 64 (drop (64 * i) (padded message))
+  -- a buffer that the padding writer wrote into has that tail
+  pub written-tail : (message buffer : List ℕ) → written message buffer .no ≡ accepted → Tailed message (bufferAfter message buffer)
   -- the viewed blocks, joined, are the padded message
   pub views-joined : (message buffer : List ℕ) → Tailed message buffer → viewedBlocks (blockCount (length message)) message buffer ≡ padded message
   -- 0, 10, 11, 13 and 12, each exactly when; the part of a refused view is empty

@@ -21,7 +21,7 @@ rightCount bytes = eqb (statedBits bytes % 8) 0 && eqb (64 * blockCount (statedB
 unfoldable pub rightFill : ℕ → List ℕ → Bool
 rightFill m bytes = eqb (getD bytes m 0) 0x80 && same (take (length bytes - 8 - (m + 1)) (drop (m + 1) bytes)) (replicate (length bytes - 8 - (m + 1)) 0)
 
--- "The bytes are a padded message exactly when their length is a positive multiple of 64, .."
+-- "the bytes are a padded message exactly when their length is a positive multiple of 64, .."
 unfoldable pub isPadded : List ℕ → Bool
 isPadded bytes = ltb 0 (length bytes) && eqb (length bytes % 64) 0 && rightCount bytes && rightFill (statedBits bytes / 8) bytes
 

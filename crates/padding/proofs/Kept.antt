@@ -23,6 +23,16 @@ fewest : (m z : ℕ) → (m + 1 + z) % 64 ≡ 56 → zeros m ≤ z
 unfolding zeros
 fewest m z h = omega arith
 
+-- the same in bits: eight for each byte, and seven of the byte 80
+in-bits : (m : ℕ) → (8 * m + 1 + (8 * zeros m + 7)) % 512 ≡ 448
+in-bits m = let bytes = makes-56 m in omega arith
+
+fewest-in-bits : (m k : ℕ) → (8 * m + 1 + k) % 512 ≡ 448 → 8 * zeros m + 7 ≤ k
+fewest-in-bits m k h =
+    let whole : (m + 1 + k / 8) % 64 ≡ 56 = omega arith in
+    let bytes = fewest m (k / 8) whole in
+    omega arith
+
 sizes : (m : ℕ) → (tailSize m ≡ 64) ⊎ (tailSize m ≡ 128)
 sizes m = ⊎-elim (λ one. inl (one .1)) (λ two. inr (two .1)) (one-or-two m)
 
@@ -82,6 +92,8 @@ kept =
     record {
       zeros-make-56 = makes-56;
       zeros-are-fewest = fewest;
+      zeros-in-bits = in-bits;
+      fewest-bits = fewest-in-bits;
       blocks = padded-length;
       size = tail-length;
       one-or-two = sizes;

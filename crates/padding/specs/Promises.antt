@@ -12,6 +12,9 @@ pub record Promises : Type 0 where
   -- "the fewest zero bytes that make the length 56 modulo 64"
   pub zeros-make-56 : (m : ℕ) → (m + 1 + zeros m) % 64 ≡ 56
   pub zeros-are-fewest : (m z : ℕ) → (m + 1 + z) % 64 ≡ 56 → zeros m ≤ z
+  -- document 003, 5.2: the bit 1, then k zeros, "the smallest non-negative integer" with l + 1 + k = 448 modulo 512
+  pub zeros-in-bits : (m : ℕ) → (8 * m + 1 + (8 * zeros m + 7)) % 512 ≡ 448
+  pub fewest-bits : (m k : ℕ) → (8 * m + 1 + k) % 512 ≡ 448 → 8 * zeros m + 7 ≤ k
   -- "A padded message has floor((m+8)/64) + 1 blocks"
   pub blocks : (message : List ℕ) → length (padded message) ≡ 64 * blockCount (length message)
   -- "the first 64 or 128 bytes of the buffer"

@@ -34,7 +34,7 @@ Traced =
     → ((j : ℕ) → j < 64 → row (j + 1) ≡ roundOn (expansion B) j (row j))
     → CF v B ≡ xorWords (row 64) v
 
--- "V(i+1) = CF(V(i), B(i))"
+-- document 003, 5.3.1: "V(i+1) = CF(V(i), B(i))"
 abbrev pub Iteration : Type 0
 Iteration = (i : ℕ) (v : Words) (m : List ℕ) → iterated (i + 1) v m ≡ CF (iterated i v m) (take 64 (drop (64 * i) m))
 
