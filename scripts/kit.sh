@@ -34,5 +34,5 @@ compile_x86() {
 link_x86() {
     local out=$1 lib=$TOOLCHAIN/lib
     shift
-    "$TOOLCHAIN/bin/ld.lld" -pie -dynamic-linker "$lib/ld-linux-x86-64.so.2" -o "$out" "$lib/Scrt1.o" "$lib/crti.o" "$lib/crtbeginS.o" "$@" "$lib/libc.so.6" "$lib/libc_nonshared.a" "$lib/libgcc.a" "$lib/crtendS.o" "$lib/crtn.o"
+    "$TOOLCHAIN/bin/ld.lld" -pie -dynamic-linker "$lib/ld-linux-x86-64.so.2" -rpath "$lib" -o "$out" "$lib/Scrt1.o" "$lib/crti.o" "$lib/crtbeginS.o" "$@" "$lib/libc.so.6" "$lib/libc_nonshared.a" "$lib/libgcc.a" "$lib/crtendS.o" "$lib/crtn.o"
 }
