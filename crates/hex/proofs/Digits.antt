@@ -4,11 +4,12 @@ use Prim.Native.Nat.{ℕ, _+_, _-_, _<_, _≤_}
 use mathlib.Core.Path.{_≡_, refl, sym, _∙_}
 use mathlib.Core.Logic.{_⊎_, inl, inr, ⊎-elim}
 use mathlib.Core.Bool.{Bool, true, false, _&&_, false≢true}
+use native.Mathlib.Decide.{decLt}
 use native.Mathlib.Omega.{arith}
-use borrow.Author.Tests.{leb-true, leb-false, le-leb, lt-leb}
+use borrow.Author.Tests.{leb-true, leb-false, le-leb, lt-leb, lt-ltb, le-ltb}
 use lib.Dec.{eqb, eqb→eq, leb}
 use lib.ListN.{getD, length}
-use Rattle.hex.specs.Digits.{within, digitOf, digits, IsDigit}
+use Rattle.hex.specs.Digits.{within, digitOf, digits, letterOf, IsDigit}
 use Rattle.hex.proofs.Every.{at}
 
 -- the test of an entry: it is the value of its place
@@ -67,3 +68,28 @@ digit-below code value (inr h) = omega arith
 -- where the value is below 16 there is a digit
 pub value-digit : (code : ℕ) → digitOf code < 16 → IsDigit code (digitOf code)
 value-digit code below = ⊎-elim (λ h. h .1) (λ h. absurd (omega arith)) (digit-or-none code)
+
+-- the digit that is written, by its value
+pub letter-figure : (value : ℕ) → value < 10 → letterOf value ≡ 0x30 + value
+unfolding letterOf
+letter-figure value h = simp (lt-ltb value 10 h)
+
+pub letter-letter : (value : ℕ) → 10 ≤ value → value < 16 → letterOf value ≡ 0x61 + (value - 10)
+unfolding letterOf
+letter-letter value low high = simp (le-ltb value 10 low, lt-ltb value 16 high)
+
+pub letter-none : (value : ℕ) → 16 ≤ value → letterOf value ≡ 0
+unfolding letterOf
+letter-none value h = simp (le-ltb value 10 (omega arith), le-ltb value 16 h)
+
+-- a digit is the one that is written for its value
+pub one-letter : (code value : ℕ) → IsDigit code value → code ≡ letterOf value
+unfolding IsDigit
+one-letter code value (inl h) = h .1 ∙ sym (letter-figure value (h .0))
+one-letter code value (inr h) = h .2 ∙ sym (letter-letter value (h .0) (h .1))
+
+-- and what is written is a digit
+pub is-letter : (value : ℕ) → value < 16 → IsDigit (letterOf value) value
+unfolding IsDigit
+is-letter value h =
+    elim (decLt value 10) [ yes low ↦ inl (low, letter-figure value low) | no high ↦ inr (omega arith, h, letter-letter value (omega arith) h) ]

@@ -1,3 +1,3 @@
 pub mod Every
 pub mod Digits
-pub mod Kept
+pub mod Proved

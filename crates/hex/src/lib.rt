@@ -1,7 +1,7 @@
 // Hex digits: a constant table of 256 entries, one a byte code.
 ghost use mathlib.Core.Path.{_≡_};
 ghost use lib.ListN.{getD};
-ghost use Rattle.hex.specs.Digits.{digits};
+ghost use Rattle.hex.specs.Digits.{digits, letterOf};
 
 // 255 for a byte that is no digit.
 const DIGITS: [u8; 256] = [
@@ -275,4 +275,17 @@ pub fn digit(table: &[u8; 256], code: u8) -> u8
     ensures { λ r. ⌜ r ≡ getD (now (table .entry)) code 0 ⌝ }
 {
     table[code as usize]
+}
+
+// The digit that stands for a value: a small letter from ten on. 0, which is none, for a value that is no digit's.
+pub fn letter_of(value: u8) -> u8
+    ensures { λ r. ⌜ r ≡ letterOf value ⌝ }
+{
+    if value < 10 {
+        return 0x30 + value;
+    }
+    if value < 16 {
+        return 0x61 + (value - 10);
+    }
+    0
 }

@@ -1,6 +1,6 @@
 -- "A length in bits, a length in bytes and a count of sample frames are three separate units in this product. One frame is two bytes."
 -- A length has an exact value in another unit, or it is said to have none: then the number is 0.
-use Prim.Native.Nat.{ℕ, _*_, _/_, _%_, _^_}
+use Prim.Native.Nat.{ℕ, _*_, _-_, _/_, _%_, _^_}
 use mathlib.Core.Bool.{true, false, cond}
 use lib.Dec.{ltb, eqb}
 use Rattle.units.specs.declared.Bits.{Bits}
@@ -9,6 +9,10 @@ use Rattle.units.specs.declared.Frames.{Frames}
 use Rattle.units.specs.declared.InBits.{InBits}
 use Rattle.units.specs.declared.InBytes.{InBytes}
 use Rattle.units.specs.declared.InFrames.{InFrames}
+
+-- demand 2: "every message of whole bytes up to 2^61 - 1 of them": the most bytes whose bits can be counted
+abbrev pub longest : ℕ
+longest = 2 ^ 61 - 1
 
 -- exactly n of a unit, and no exact value
 abbrev pub inBits : ℕ → InBits

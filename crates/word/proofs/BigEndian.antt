@@ -2,7 +2,7 @@
 use mathlib.Core.Path.{_≡_, refl, sym, ap, ap₂, _∙_}
 use mathlib.Core.List.{List, [], _∷_, _++_}
 use Prim.Native.Nat.{ℕ, zero, suc, _+_, _*_, _/_, _%_, _^_, _<_, suc-le-suc}
-use native.Mathlib.Nat.{mod-one, div-one, div-div-eq-div-mul, pow-suc, pow-succ', zero-lt-suc}
+use native.Mathlib.Nat.{mod-lt, mod-one, div-one, div-div-eq-div-mul, pow-suc, pow-succ', zero-lt-suc}
 use native.Mathlib.Numerals.{add-one}
 use native.Mathlib.Omega.{arith}
 use lib.Arith.{mod-mul, digits-div, digits-mod}
@@ -19,7 +19,7 @@ pow-pos zero = zero-lt-suc 0
 pow-pos (suc n) = rw (pow-suc 256 n) (omega (arith, pow-pos n))
 
 -- one byte more at the end
-number-snoc : (high b : ℕ) (bs : List ℕ) → numberFrom high (bs ++ (b ∷ [])) ≡ numberFrom high bs * 256 + b
+pub number-snoc : (high b : ℕ) (bs : List ℕ) → numberFrom high (bs ++ (b ∷ [])) ≡ numberFrom high bs * 256 + b
 unfolding numberFrom
 number-snoc high b [] = refl
 number-snoc high b (c ∷ bs) = number-snoc (high * 256 + c) b bs
@@ -46,6 +46,16 @@ are-bytes-tail b bs all i h = all (suc i) (suc-le-suc h)
 pub are-bytes-head : (b : ℕ) (bs : List ℕ) → AreBytes (b ∷ bs) → b < 256
 unfolding AreBytes
 are-bytes-head b bs all = all 0 (suc-le-suc (omega arith))
+
+are-bytes-cons : (b : ℕ) (bs : List ℕ) → b < 256 → AreBytes bs → AreBytes (b ∷ bs)
+unfolding AreBytes
+are-bytes-cons b bs head rest zero h = head
+are-bytes-cons b bs head rest (suc i) h = rest i (omega arith)
+
+pub are-bytes-bigEndian : (n x : ℕ) → AreBytes (bigEndian n x)
+unfolding AreBytes bigEndian
+are-bytes-bigEndian zero x = λ i h. absurd (omega arith)
+are-bytes-bigEndian (suc n) x = rw (first-byte n x) (are-bytes-cons (x / 256 ^ n % 256) (bigEndian n x) (mod-lt _ (zero-lt-suc 255)) (are-bytes-bigEndian n x))
 
 -- what the number began with is left when its bytes are taken off
 high-part : (high : ℕ) (bs : List ℕ) → AreBytes bs → numberFrom high bs / 256 ^ length bs ≡ high

@@ -1,4 +1,4 @@
 pub mod Turning
 pub mod Rotation
 pub mod BigEndian
-pub mod Kept
+pub mod Proved

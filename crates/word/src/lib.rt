@@ -37,3 +37,19 @@ pub fn bytes_of(w: u32) -> [u8; 4]
         (w % 256) as u8,
     ]
 }
+
+// A number of 64 bits as eight bytes, most significant first.
+pub fn eight_bytes_of(n: u64) -> [u8; 8]
+    ensures { λ r. ⌜ r ≡ bigEndian 8 n ⌝ }
+{
+    [
+        (n / 256 / 256 / 256 / 256 / 256 / 256 / 256 % 256) as u8,
+        (n / 256 / 256 / 256 / 256 / 256 / 256 % 256) as u8,
+        (n / 256 / 256 / 256 / 256 / 256 % 256) as u8,
+        (n / 256 / 256 / 256 / 256 % 256) as u8,
+        (n / 256 / 256 / 256 % 256) as u8,
+        (n / 256 / 256 % 256) as u8,
+        (n / 256 % 256) as u8,
+        (n % 256) as u8,
+    ]
+}

@@ -1,0 +1,4 @@
+pub mod Comparing
+pub mod Copied
+pub mod Zeros
+pub mod Proved

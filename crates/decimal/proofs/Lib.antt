@@ -1,0 +1,5 @@
+pub mod Steps
+pub mod Numbers
+pub mod Spelling
+pub mod Laying
+pub mod Proved
