@@ -10,13 +10,14 @@ use borrow.Author.Tests.{eq-eqb}
 use lib.ListN.{length, take, drop, replicate, length-append, length-drop}
 use lib.Seq.{take-append-le, take-at}
 use Rattle.refusal.specs.Table.{accepted}
-use Rattle.copy.specs.Copy.{copied}
-use Rattle.copy.proofs.Copied.{copied-front}
+use Rattle.buffers.specs.Copy.{copied}
+use Rattle.buffers.proofs.Copied.{copied-front}
 use Rattle.standard.specs.Standard.{IV, folded, rest, hashValue}
 use Rattle.standard.proofs.Folding.{folded-join, length-rest}
-use Rattle.padding.specs.Padding.{longest, padding, padded}
+use Rattle.units.specs.Units.{longest}
+use Rattle.padding.specs.Padding.{padding, padded}
 use Rattle.padding.specs.Writing.{tailOf, tailSize, tailAnswer, tailAfter, written, bufferAfter}
-use Rattle.padding.specs.declared.Written.{Written}
+use Rattle.refusal.specs.declared.Written.{Written}
 use Rattle.padding.proofs.Tails.{fills-tail, at-most-128, accepts, refused-long, pads, accepted-when}
 use Rattle.hash.specs.Sm3.{sm3}
 use Rattle.hash.specs.State.{kept, inOrder}
@@ -78,14 +79,14 @@ module _ (m a : List ℕ) (r : Written) (answered : r ≡ written m blank) (left
   fits = omega (arith, at-most-128 (length m))
 
   -- the buffer is long enough: only a message that is too long is refused
-  pub write-refuses : (r .no ≡ accepted → ⊥) → noDigest (r .no) ≡ digest m
+  pub write-refuses : (r .number ≡ accepted → ⊥) → noDigest (r .number) ≡ digest m
   write-refuses f =
       ⊎-elim
-      (λ (within : length m ≤ longest). absurd (f (ap (λ (w : Written). w .no) (answer ∙ accepts (length m) 128 within fits))))
+      (λ (within : length m ≤ longest). absurd (f (ap (λ (w : Written). w .number) (answer ∙ accepts (length m) 128 within fits))))
       (λ (past : longest < length m). rw (answer, refused-long (length m) 128 past) (sym (digest-passes m past)))
       (fits-or-passes (length m))
 
-  module _ (ok : r .no ≡ accepted) where
+  module _ (ok : r .number ≡ accepted) where
     within : length m ≤ longest
     within = accepted-when (length m) 128 r answer ok .within
 
@@ -94,9 +95,9 @@ module _ (m a : List ℕ) (r : Written) (answered : r ≡ written m blank) (left
     message-holds =
         let size : length (rest m ++ padding (length m)) ≡ tailSize (length m) = omega (arith, length-append (rest m) (padding (length m)), length-rest m, fills-tail (length m)) in
         let count : r .count ≡ tailSize (length m) = accepted-when (length m) 128 r answer ok .size in
-        let yes : eqb (written m blank .no) accepted ≡ true = eq-eqb _ _ (ap (λ (w : Written). w .no) (sym answered) ∙ ok) in
+        let yes : eqb (written m blank .number) accepted ≡ true = eq-eqb _ _ (ap (λ (w : Written). w .number) (sym answered) ∙ ok) in
         rw (left, count, yes) (holds _ _ _ size)
 
-    pub message-digest : record { no = accepted; bytes = hashValue (folded (folded IV m) (tailOf m)) } ≡ digest m
+    pub message-digest : record { number = accepted; bytes = hashValue (folded (folded IV m) (tailOf m)) } ≡ digest m
     unfolding sm3 padded tailOf
     message-digest = rw (digest-sm3 m within, folded-join IV m (padding (length m)))

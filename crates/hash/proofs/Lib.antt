@@ -4,5 +4,6 @@ pub mod Updating
 pub mod Cutting
 pub mod Comparing
 pub mod Refusing
+pub mod Following
 pub mod Ending
-pub mod Kept
+pub mod Proved

@@ -8,12 +8,12 @@ use mathlib.Core.List.{List}
 use lib.Dec.{leb, eqb}
 use lib.ListN.{length}
 use borrow.Author.Tests.{leb-true, leb-false, eqb-true, eqb-false, ne-eqb}
-use Rattle.refusal.specs.Table.{accepted, state-not-in-order, too-long, wrong-size}
-use Rattle.same.specs.Same.{same}
-use Rattle.same.proofs.Tests.{not-both}
-use Rattle.same.proofs.Same.{same-equal, equal-same}
+use Rattle.refusal.specs.Table.{accepted, stateNotInOrder, tooLong, wrongSize}
+use Rattle.buffers.specs.Same.{same}
+use Rattle.truth.proofs.Tests.{not-both}
+use Rattle.buffers.proofs.Comparing.{same-equal, equal-same}
 use Rattle.standard.proofs.Folding.{length-hashValue}
-use Rattle.padding.specs.Padding.{longest}
+use Rattle.units.specs.Units.{longest}
 use Rattle.hash.specs.Sm3.{sm3}
 use Rattle.hash.specs.State.{inOrder}
 use Rattle.hash.specs.Digests.{noDigest, compared, compareMessage, compareState}
@@ -80,20 +80,20 @@ digest-refusals m =
 -- a comparison's rows, for any digest: `bad` is what it is refused for, with number n, and `good` what it is accepted for
 abbrev Rows : Compared → ℕ → List ℕ → Type 0 → Type 0 → Type 0 → Type 0
 Rows c n x bad good equal =
-    ((c .no ≡ n) ↔ bad)
-    × ((c .no ≡ wrong-size) ↔ (good × (length x ≡ 32 → ⊥)))
-    × ((c .no ≡ accepted) ↔ (good × (length x ≡ 32)))
+    ((c .number ≡ n) ↔ bad)
+    × ((c .number ≡ wrongSize) ↔ (good × (length x ≡ 32 → ⊥)))
+    × ((c .number ≡ accepted) ↔ (good × (length x ≡ 32)))
     × ((c .same ≡ true) ↔ (good × equal))
 
-refused-rows : (n : ℕ) (x : List ℕ) {bad good equal : Type 0} → accepted < n → n < wrong-size → bad → (good → ⊥)
+refused-rows : (n : ℕ) (x : List ℕ) {bad good equal : Type 0} → accepted < n → n < wrongSize → bad → (good → ⊥)
     → Rows (compared (noDigest n) x) n x bad good equal
 unfolding compared noDigest
 refused-rows n x p q b g =
     rw (ne-eqb n accepted (λ e. omega arith))
     (hold refl b, fail (λ e. omega arith) (λ k. g (k .0)), fail (λ e. omega arith) (λ k. g (k .0)), fail (λ e. not-both _ refl e) (λ k. g (k .0)))
 
-accepted-rows : (n : ℕ) (b x : List ℕ) {bad good : Type 0} → accepted < n → n < wrong-size → length b ≡ 32 → (bad → ⊥) → good
-    → Rows (compared (record { no = accepted; bytes = b }) x) n x bad good (x ≡ b)
+accepted-rows : (n : ℕ) (b x : List ℕ) {bad good : Type 0} → accepted < n → n < wrongSize → length b ≡ 32 → (bad → ⊥) → good
+    → Rows (compared (record { number = accepted; bytes = b }) x) n x bad good (x ≡ b)
 unfolding compared
 accepted-rows n b x p q l f g =
     ⊎-elim
@@ -120,9 +120,9 @@ unfolding compareMessage
 message-compared m x =
     ⊎-elim
     (λ (fits : length m ≤ longest).
-    rw (digest-sm3 m fits) (accepted-rows too-long (sm3 m) x (omega arith) (omega arith) (length-sm3 m) (λ k. omega arith) fits))
+    rw (digest-sm3 m fits) (accepted-rows tooLong (sm3 m) x (omega arith) (omega arith) (length-sm3 m) (λ k. omega arith) fits))
     (λ (past : longest < length m).
-    rw (digest-passes m past) (refused-rows too-long x (omega arith) (omega arith) past (λ k. omega arith)))
+    rw (digest-passes m past) (refused-rows tooLong x (omega arith) (omega arith) past (λ k. omega arith)))
     (fits-or-passes (length m))
 
 pub state-compared : StateCompared
@@ -130,7 +130,7 @@ unfolding compareState
 state-compared h x =
     ⊎-elim
     (λ (o : inOrder h ≡ true).
-    rw (finish-folds h o) (accepted-rows state-not-in-order _ x (omega arith) (omega arith) (length-hashValue _) (λ k. not-both _ k o) o))
+    rw (finish-folds h o) (accepted-rows stateNotInOrder _ x (omega arith) (omega arith) (length-hashValue _) (λ k. not-both _ k o) o))
     (λ (f : inOrder h ≡ false).
-    rw (finish-spoilt h f) (refused-rows state-not-in-order x (omega arith) (omega arith) f (λ k. not-both _ f k)))
+    rw (finish-spoilt h f) (refused-rows stateNotInOrder x (omega arith) (omega arith) f (λ k. not-both _ f k)))
     (tested (inOrder h))

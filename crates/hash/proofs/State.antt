@@ -9,14 +9,14 @@ use lib.Dec.{leb, eqb}
 use lib.ListN.{length, getD, take, drop, replicate, length-append, length-drop, take-append-drop, length-replicate, getD-replicate}
 use lib.Seq.{take-all, take-length, length-take-le, take-at, drop-at, getD-drop, drop-drop, ext-getD}
 use borrow.Author.Tests.{leb-true, le-leb, lt-leb, eqb-true}
-use Rattle.copy.specs.Copy.{copied}
-use Rattle.copy.proofs.Copied.{copied-fits, copied-front}
-use Rattle.same.specs.Same.{same}
-use Rattle.same.proofs.Same.{same-equal, same-self, equal-same}
-use Rattle.same.proofs.Tests.{first, second, both}
+use Rattle.buffers.specs.Copy.{copied}
+use Rattle.buffers.proofs.Copied.{copied-fits, copied-front}
+use Rattle.buffers.specs.Same.{same, allZero}
+use Rattle.buffers.proofs.Comparing.{same-equal, same-self, equal-same}
+use Rattle.truth.proofs.Tests.{first, second, both}
 use Rattle.standard.specs.declared.Words.{Words}
 use Rattle.standard.specs.Standard.{IV}
-use Rattle.padding.specs.Padding.{longest}
+use Rattle.units.specs.Units.{longest}
 use Rattle.hash.specs.State.{fresh, inList, isFresh, kept, inOrder, asTail}
 use Rattle.hash.specs.Promises.{InOrder}
 use Rattle.hash.specs.declared.Hash.{Hash}
@@ -50,14 +50,13 @@ pub too-much : (h : Hash) → longest < h .total → inOrder h ≡ false
 unfolding inOrder
 too-much h past = rw (lt-leb (h .total) longest past)
 
-pub against-zeros : (h : Hash) → h .total ≤ longest → length (h .tail) ≡ 64
-    → same (take (64 - h .total % 64) (drop (h .total % 64) (h .tail))) (take (64 - h .total % 64) (drop (h .total % 64) (replicate 64 0))) ≡ inOrder h
+pub trailing-zeros : (h : Hash) → h .total ≤ longest → length (h .tail) ≡ 64
+    → allZero (take (64 - h .total % 64) (drop (h .total % 64) (h .tail))) ≡ inOrder h
 unfolding inOrder
-against-zeros h fits l =
+trailing-zeros h fits l =
     let r = h .total % 64 in
-    let n : length (drop r (h .tail)) ≤ 64 - r = omega (arith, length-drop r (h .tail)) in
-    let z : length (replicate {A = ℕ} (64 - r) 0) ≤ 64 - r = omega (arith, length-replicate {A = ℕ} (64 - r) 0) in
-    rw (le-leb (h .total) longest fits, drop-replicate 64 r, take-all (64 - r) (drop r (h .tail)) n, take-all (64 - r) (replicate (64 - r) 0) z)
+    let n : length (drop r (h .tail)) ≡ 64 - r = omega (arith, length-drop r (h .tail)) in
+    rw (le-leb (h .total) longest fits, take-all (64 - r) (drop r (h .tail)) (omega arith), n)
 
 -- a state whose tail is made of as many bytes as its total says keeps those, and is in order
 module _ (w : Words) (n : ℕ) (s : List ℕ) (e : length s ≡ n % 64) where

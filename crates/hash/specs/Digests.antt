@@ -4,10 +4,11 @@ use mathlib.Core.List.{List, _++_}
 use mathlib.Core.Bool.{false, cond}
 use lib.Dec.{ltb, eqb}
 use lib.ListN.{length, replicate}
-use Rattle.refusal.specs.Table.{accepted, state-not-in-order, too-long, wrong-size}
-use Rattle.same.specs.Same.{same}
+use Rattle.refusal.specs.Table.{accepted, stateNotInOrder, tooLong, wrongSize}
+use Rattle.buffers.specs.Same.{same}
 use Rattle.standard.specs.Standard.{folded, hashValue}
-use Rattle.padding.specs.Padding.{longest, padding}
+use Rattle.units.specs.Units.{longest}
+use Rattle.padding.specs.Padding.{padding}
 use Rattle.hash.specs.Sm3.{sm3}
 use Rattle.hash.specs.State.{kept, inOrder}
 use Rattle.hash.specs.declared.Hash.{Hash}
@@ -16,26 +17,27 @@ use Rattle.hash.specs.declared.Compared.{Compared}
 
 -- a refused digest is "all zero"
 unfoldable pub noDigest : ℕ → Digest
-noDigest number = record { no = number; bytes = replicate 32 0 }
+noDigest number = record { number = number; bytes = replicate 32 0 }
 
 -- "Final folds the padding and answers 32 bytes"; refusal 9
 unfoldable pub finish : Hash → Digest
 unfolding noDigest
 finish h =
-    cond (inOrder h) (record { no = accepted; bytes = hashValue (folded (h .words) (kept h ++ padding (h .total))) })
-    (noDigest state-not-in-order)
+    cond (inOrder h) (record { number = accepted; bytes = hashValue (folded (h .words) (kept h ++ padding (h .total))) })
+    (noDigest stateNotInOrder)
 
 -- "one call for a whole message"; refusal 10
 unfoldable pub digest : List ℕ → Digest
 unfolding noDigest
-digest message = cond (ltb longest (length message)) (noDigest too-long) (record { no = accepted; bytes = sm3 message })
+digest message = cond (ltb longest (length message)) (noDigest tooLong) (record { number = accepted; bytes = sm3 message })
 
 -- a digest held against an expected one: what the digest was refused for comes first, then 11; a refused comparison says no
 unfoldable pub compared : Digest → List ℕ → Compared
 compared d expected =
-    cond (eqb (d .no) accepted)
-    (cond (eqb (length expected) 32) (record { no = accepted; same = same (d .bytes) expected }) (record { no = wrong-size; same = false }))
-    (record { no = d .no; same = false })
+    cond (eqb (d .number) accepted)
+    (cond (eqb (length expected) 32) (record { number = accepted; same = same (d .bytes) expected })
+    (record { number = wrongSize; same = false }))
+    (record { number = d .number; same = false })
 
 -- "10, 11 for one-call comparison"; of a state 9, 11 (docs/DECISIONS.md)
 unfoldable pub compareMessage : List ℕ → List ℕ → Compared

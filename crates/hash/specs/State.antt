@@ -4,10 +4,10 @@ use mathlib.Core.List.{List, [], _∷_, _++_}
 use mathlib.Core.Bool.{Bool, _&&_}
 use lib.Dec.{leb, eqb}
 use lib.ListN.{length, take, drop, replicate}
-use Rattle.same.specs.Same.{same}
+use Rattle.buffers.specs.Same.{same}
 use Rattle.standard.specs.declared.Words.{Words}
 use Rattle.standard.specs.Standard.{IV}
-use Rattle.padding.specs.Padding.{longest}
+use Rattle.units.specs.Units.{longest}
 use Rattle.hash.specs.declared.Hash.{Hash}
 
 -- "The fresh start": the start value, nothing taken, 64 zero bytes

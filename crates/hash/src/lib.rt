@@ -8,15 +8,17 @@ use units::Bytes;
 use units::LONGEST;
 ghost use mathlib.Core.Path.{_≡_};
 ghost use mathlib.Core.Bool.{true};
+ghost use mathlib.Core.List.{_++_};
 ghost use Prim.Native.Nat.{_+_, _≤_};
 ghost use lib.ListN.{length};
 ghost use Rattle.hash.specs.State.{fresh, inList, isFresh, inOrder, asTail};
 ghost use Rattle.refusal.specs.Table.{accepted};
 ghost use Rattle.standard.specs.Standard.{folded, rest, hashValue};
-ghost use Rattle.padding.specs.Padding.{longest};
-ghost use Rattle.same.specs.Same.{same};
-ghost use Rattle.hash.specs.Update.{taken, update};
+ghost use Rattle.units.specs.Units.{longest};
+ghost use Rattle.buffers.specs.Same.{same};
+ghost use Rattle.hash.specs.Update.{afterPiece, update};
 ghost use Rattle.hash.specs.Digests.{noDigest, finish, digest, compared, compareMessage, compareState};
+ghost use Rattle.hash.specs.Following.{followed, finished};
 
 // "Eight words, a total of bytes taken, and 64 tail bytes."
 #[repr(C)]
@@ -29,21 +31,21 @@ pub struct Hash {
 // What update answers.
 #[repr(C)]
 pub struct Updated {
-    pub no: u8,
+    pub number: u8,
     pub state: Hash,
 }
 
 // What finish and the one call answer.
 #[repr(C)]
 pub struct Digest {
-    pub no: u8,
+    pub number: u8,
     pub bytes: [u8; 32],
 }
 
 // What a comparison answers.
 #[repr(C)]
 pub struct Compared {
-    pub no: u8,
+    pub number: u8,
     pub same: bool,
 }
 
@@ -76,12 +78,13 @@ impl Hash {
     pub fn is_fresh(self) -> bool
         ensures { λ r. ⌜ r ≡ isFresh self ⌝ }
     {
+        // held against zeros: `all_zero` of so many bytes is unrolled, and the tail then taken apart byte by byte
         let tail = self.tail;
         let zeros = [0u8; Hash::BLOCK];
-        same_words(self.words, Hash::START) & (self.total == 0) & same::bytes(&tail, &zeros)
+        same_words(self.words, Hash::START) & (self.total == 0) & buffers::same(&tail, &zeros)
     }
 
-    // The trailing bytes are held against zeros, all of them whatever is found.
+    // "total is at most 2^61 - 1 and those trailing bytes are zero"
     pub fn in_order(self) -> bool
         ensures { λ r. ⌜ r ≡ inOrder self ⌝ }
     {
@@ -90,9 +93,8 @@ impl Hash {
             return false;
         }
         let kept = (total % 64) as usize;
-        let all = self.tail;
-        let zeros = [0u8; Hash::BLOCK];
-        same::bytes(&all[kept..], &zeros[kept..])
+        let tail = self.tail;
+        buffers::all_zero(&tail[kept..])
     }
 
     // Refusals 9 and 10. What room is left is compared with the piece: their sum could pass 2^64.
@@ -101,43 +103,43 @@ impl Hash {
     {
         if !self.in_order() {
             return Updated {
-                no: STATE_NOT_IN_ORDER,
+                number: STATE_NOT_IN_ORDER,
                 state: self,
             };
         }
         if LONGEST - self.total < piece.len() as u64 {
             return Updated {
-                no: TOO_LONG,
+                number: TOO_LONG,
                 state: self,
             };
         }
-        let after = self.taken(piece);
+        let after = self.after_piece(piece);
         Updated {
-            no: ACCEPTED,
+            number: ACCEPTED,
             state: after,
         }
     }
 
     // At most 63 bytes of the piece fill the tail up to a block, at most 63 are left over in the end: no others are copied.
-    fn taken(self, piece: &[u8]) -> Hash
+    fn after_piece(self, piece: &[u8]) -> Hash
         requires { ⌜ (inOrder self ≡ true) × (self .total + length (now piece) ≤ longest) ⌝ }
-        ensures { λ r. ⌜ r ≡ taken self (now (piece .entry)) ⌝ }
+        ensures { λ r. ⌜ r ≡ afterPiece self (now (piece .entry)) ⌝ }
     {
         let words = self.words;
         let total = self.total + piece.len() as u64;
         let kept = (self.total % 64) as usize;
         if kept == 0 {
-            return kept_of(words, total, piece);
+            return after_blocks(words, total, piece);
         }
         let mut tail = self.tail;
         let room = Hash::BLOCK - kept;
         if piece.len() < room {
-            copy::bytes(&mut tail, kept, piece);
+            buffers::copy(&mut tail, kept, piece);
             return Hash { words, total, tail };
         }
-        copy::bytes(&mut tail, kept, &piece[..room]);
-        let full = sm3::fold(words, &tail);
-        kept_of(full, total, &piece[room..])
+        buffers::copy(&mut tail, kept, &piece[..room]);
+        let full = folding::fold(words, &tail);
+        after_blocks(full, total, &piece[room..])
     }
 
     // Refusal 9. The state is as it was: it came by value.
@@ -149,7 +151,7 @@ impl Hash {
         }
         let tail = self.tail;
         let mut last = [0u8; 2 * Hash::BLOCK];
-        copy::bytes(&mut last, 0, &tail);
+        buffers::copy(&mut last, 0, &tail);
         let written = padding::pad(&mut last, Bytes(self.total));
         let count = written.count;
         ended(self.words, &last[..count])
@@ -164,12 +166,12 @@ impl Hash {
 }
 
 // A state that has taken the whole blocks of these bytes, read where they lie, and keeps what remains.
-fn kept_of(words: Words, total: u64, bytes: &[u8]) -> Hash
+fn after_blocks(words: Words, total: u64, bytes: &[u8]) -> Hash
     ensures { λ r. ⌜ r ≡ record { words = folded words (now (bytes .entry)); total = total; tail = asTail (rest (now (bytes .entry))) } ⌝ }
 {
     let whole = bytes.len() / Hash::BLOCK * Hash::BLOCK;
     Hash {
-        words: sm3::fold(words, bytes),
+        words: folding::fold(words, bytes),
         total,
         tail: tail_of(&bytes[whole..]),
     }
@@ -181,7 +183,7 @@ fn tail_of(bytes: &[u8]) -> [u8; 64]
     ensures { λ r. ⌜ r ≡ asTail (now (bytes .entry)) ⌝ }
 {
     let mut tail = [0u8; Hash::BLOCK];
-    copy::bytes(&mut tail, 0, bytes);
+    buffers::copy(&mut tail, 0, bytes);
     tail
 }
 
@@ -205,11 +207,11 @@ pub fn digest_of(message: &[u8]) -> Digest
 {
     let mut last = [0u8; 2 * Hash::BLOCK];
     let written = padding::write(message, &mut last);
-    if written.no != ACCEPTED {
-        return no_digest(written.no);
+    if written.number != ACCEPTED {
+        return no_digest(written.number);
     }
     let count = written.count;
-    ended(sm3::fold(Hash::START, message), &last[..count])
+    ended(folding::fold(Hash::START, message), &last[..count])
 }
 
 // The one call, held against an expected digest: refusals 10 and 11.
@@ -219,41 +221,87 @@ pub fn matches(message: &[u8], expected: &[u8]) -> Compared
     against(digest_of(message), expected)
 }
 
+// The digest of a message that comes in two pieces, and in three: refusal 10 goes by all of them. No piece is copied to stand by another.
+pub fn digest_of_two(first: &[u8], second: &[u8]) -> Digest
+    ensures { λ r. ⌜ r ≡ digest (now (first .entry) ++ now (second .entry)) ⌝ }
+{
+    let one = Hash::fresh().update(first);
+    let two = followed(one, second);
+    finished(two)
+}
+
+pub fn digest_of_three(first: &[u8], second: &[u8], third: &[u8]) -> Digest
+    ensures { λ r. ⌜ r ≡ digest (now (first .entry) ++ (now (second .entry) ++ now (third .entry))) ⌝ }
+{
+    let one = Hash::fresh().update(first);
+    let two = followed(one, second);
+    let three = followed(two, third);
+    finished(three)
+}
+
+// What an update answered, and a piece more, unless it was a refusal.
+fn followed(u: Updated, piece: &[u8]) -> Updated
+    ensures { λ r. ⌜ r ≡ followed u (now (piece .entry)) ⌝ }
+{
+    if u.number != ACCEPTED {
+        return u;
+    }
+    let state = u.state;
+    state.update(piece)
+}
+
+// The digest of what an update answered, unless it was a refusal.
+fn finished(u: Updated) -> Digest
+    ensures { λ r. ⌜ r ≡ finished u ⌝ }
+{
+    if u.number != ACCEPTED {
+        return no_digest(u.number);
+    }
+    let state = u.state;
+    state.finish()
+}
+
 // The digest once the last bytes, the padding with them, are folded.
 fn ended(words: Words, last: &[u8]) -> Digest
-    ensures { λ r. ⌜ r ≡ record { no = accepted; bytes = hashValue (folded words (now (last .entry))) } ⌝ }
+    ensures { λ r. ⌜ r ≡ record { number = accepted; bytes = hashValue (folded words (now (last .entry))) } ⌝ }
 {
-    let all = sm3::fold(words, last);
+    let all = folding::fold(words, last);
     Digest {
-        no: ACCEPTED,
+        number: ACCEPTED,
         bytes: standard::hash_value(all),
     }
 }
 
-// A refused digest.
-fn no_digest(no: u8) -> Digest
-    ensures { λ r. ⌜ r ≡ noDigest no ⌝ }
+// A refused digest: "all zero".
+pub fn no_digest(number: u8) -> Digest
+    ensures { λ r. ⌜ r ≡ noDigest number ⌝ }
 {
-    Digest { no, bytes: [0; 32] }
+    Digest {
+        number,
+        bytes: [0; 32],
+    }
 }
 
-// A digest held against an expected one.
-fn against(d: Digest, expected: &[u8]) -> Compared
+// A digest held against an expected one: what the digest was refused for comes first, then 11.
+pub fn against(d: Digest, expected: &[u8]) -> Compared
     ensures { λ r. ⌜ r ≡ compared d (now (expected .entry)) ⌝ }
 {
-    let no = d.no;
-    if no != ACCEPTED {
-        return Compared { no, same: false };
+    let number = d.number;
+    if number != ACCEPTED {
+        return Compared {
+            number,
+            same: false,
+        };
     }
     if expected.len() != 32 {
         return Compared {
-            no: WRONG_SIZE,
+            number: WRONG_SIZE,
             same: false,
         };
     }
     let bytes = d.bytes;
     Compared {
-        no: ACCEPTED,
-        same: same::bytes(&bytes, expected),
+        number: ACCEPTED,
+        same: buffers::same(&bytes, expected),
     }
 }

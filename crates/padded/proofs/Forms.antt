@@ -9,12 +9,13 @@ use borrow.Author.Tests.{eq-eqb}
 use lib.Dec.{eqb}
 use lib.ListN.{length, take, drop, replicate, length-append, length-drop, length-replicate}
 use lib.Seq.{take-at, drop-at, getD-at, length-take-le}
-use Rattle.same.specs.Same.{same}
-use Rattle.same.proofs.Tests.{both}
-use Rattle.same.proofs.Same.{same-equal, same-self}
+use Rattle.buffers.specs.Same.{same}
+use Rattle.truth.proofs.Tests.{both}
+use Rattle.buffers.proofs.Comparing.{same-equal, same-self}
 use Rattle.word.specs.BigEndian.{bigEndian, numberOf, AreBytes}
 use Rattle.word.proofs.BigEndian.{number-bytes, bytes-number, length-bigEndian}
-use Rattle.padding.specs.Padding.{longest, zeros, padding, padded, blockCount}
+use Rattle.units.specs.Units.{longest}
+use Rattle.padding.specs.Padding.{zeros, padding, padded, blockCount}
 use Rattle.padding.proofs.Tails.{fills, fills-blocks}
 use Rattle.padding.proofs.Wholes.{padded-length}
 use Rattle.padded.specs.Removing.{statedBits, rightFill, isPadded}

@@ -7,14 +7,15 @@ use native.Mathlib.Omega.{arith}
 use lib.ListN.{length, take, drop, length-drop, take-append-drop}
 use lib.Seq.{take-append-le, drop-append-le, drop-append-add, take-add, take-all, length-take-le}
 use Rattle.refusal.specs.Table.{accepted}
-use Rattle.same.proofs.Same.{same-equal, equal-same}
+use Rattle.buffers.proofs.Comparing.{same-equal, equal-same}
 use Rattle.padding.specs.Padding.{padding, padded, blockCount}
 use Rattle.padding.specs.Writing.{tailOf, tailSize}
 use Rattle.padding.proofs.Tails.{fills-blocks}
 use Rattle.padding.proofs.Wholes.{padded-length, tail-length, whole-and-tail}
 use Rattle.padded.specs.Viewing.{viewNumber, viewPart}
 use Rattle.padded.specs.Promises.{viewedBlocks, Tailed}
-use Rattle.padded.proofs.Viewed.{viewed, inside, in-tail, view-accepts}
+use Rattle.padded.proofs.Viewed.{viewed, view-accepts}
+use Rattle.padded.proofs.Placed.{part-in-message, part-in-buffer}
 
 -- 64 bytes that lie wholly in the first of two lists
 lies-in : (a c : List ℕ) (j : ℕ) → j + 64 ≤ length a → take 64 (drop j (a ++ c)) ≡ take 64 (drop j a)
@@ -24,10 +25,7 @@ lies-in a c j h =
 module _ (s b : List ℕ) (i : ℕ) (ok : viewNumber s b i ≡ accepted) where
   in-message : i < length s / 64 → viewPart s b i ≡ take 64 (drop (64 * i) (padded s))
   unfolding padded
-  in-message h =
-      let size : 64 * i + 64 - 64 * i ≡ 64 = omega arith in
-      rw (lies-in s (padding (length s)) (64 * i) (omega arith))
-      (sym (inside s b i ok h) ∙ ap (λ n. take n (drop (64 * i) s)) size)
+  in-message h = part-in-message s b i ok h ∙ sym (lies-in s (padding (length s)) (64 * i) (omega arith))
 
   in-buffer : length s / 64 ≤ i → viewPart s b i ≡ take 64 (drop (64 * i) (padded s))
   in-buffer h =
@@ -36,15 +34,11 @@ module _ (s b : List ℕ) (i : ℕ) (ok : viewNumber s b i ≡ accepted) where
       let front = take (length s / 64 * 64) s in
       let far : length front ≡ length s / 64 * 64 = length-take-le (length s / 64 * 64) s (omega arith) in
       let place : 64 * i ≡ length front + j = omega arith in
-      let size : j + 64 - j ≡ 64 = omega arith in
-      let room : j + 64 ≤ length (tailOf s) = room-in-tail in
+      let room : j + 64 ≤ length (tailOf s) = omega (arith, tail-length s, fills-blocks (length s)) in
       let whole : b ≡ tailOf s ++ drop (tailSize (length s)) b
       = sym (take-append-drop (tailSize (length s)) b) ∙ ap (λ l. l ++ drop (tailSize (length s)) b) (same-equal _ _ (known .tail)) in
       rw (← (whole-and-tail s), place, drop-append-add front (tailOf s) j)
-      (sym (in-tail s b i ok h) ∙ ap (λ n. take n (drop j b)) size ∙ ap (λ l. take 64 (drop j l)) whole ∙ lies-in (tailOf s) (drop (tailSize (length s)) b) j room)
-    where
-      room-in-tail : 64 * (i - length s / 64) + 64 ≤ length (tailOf s)
-      room-in-tail = let known = viewed s b i ok in omega (arith, tail-length s, fills-blocks (length s))
+      (part-in-buffer s b i ok h ∙ ap (λ l. take 64 (drop j l)) whole ∙ lies-in (tailOf s) (drop (tailSize (length s)) b) j room)
 
   pub block-is : viewPart s b i ≡ take 64 (drop (64 * i) (padded s))
   block-is = by (decLt i (length s / 64))

@@ -1,8 +1,9 @@
-pub mod Scans
+pub mod Numbers
 pub mod Parts
 pub mod Placed
 pub mod Viewed
 pub mod Removed
 pub mod Joined
 pub mod Forms
-pub mod Kept
+pub mod Proved
+pub mod Lending

@@ -12,9 +12,9 @@ use mir.Syntax.{w8}
 use lib.Dec.{eqb}
 use lib.ListN.{length, take, drop, getD, replicate, length-take, length-drop, length-replicate}
 use lib.Seq.{drop-cons, drop-drop, take-add, getD-take, getD-drop, take-all, length-take-le}
-use Rattle.same.specs.Same.{same}
-use Rattle.same.proofs.Tests.{agree}
-use Rattle.same.proofs.Same.{same-equal, equal-same, same-join}
+use Rattle.buffers.specs.Same.{same}
+use Rattle.truth.proofs.Tests.{agree}
+use Rattle.buffers.proofs.Comparing.{same-equal, equal-same, same-join}
 use Rattle.padded.specs.Removing.{statedBits, rightFill}
 use Rattle.word.specs.BigEndian.{bigEndian, numberOf, AreBytes}
 use Rattle.word.proofs.BigEndian.{number-bytes, bytes-number}

@@ -7,8 +7,8 @@ use native.Mathlib.Omega.{arith}
 use borrow.Author.Tests.{lt-ltb, le-ltb, eq-eqb, ne-eqb, eqb-true, ltb-true, not-true, not-false}
 use lib.Dec.{ltb, eqb}
 use lib.ListN.{length, take}
-use Rattle.refusal.specs.Table.{accepted, not-padded}
-use Rattle.same.proofs.Tests.{first, second}
+use Rattle.refusal.specs.Table.{accepted, notPadded}
+use Rattle.truth.proofs.Tests.{first, second}
 use Rattle.units.specs.declared.InBytes.{InBytes}
 use Rattle.units.specs.Units.{bytesOfBits}
 use Rattle.units.proofs.Exact.{whole, bytes-are, refutes-no}
@@ -25,52 +25,64 @@ module _ (b : List ℕ) where
     unfolding isPadded
     broken-block h = simp (lt-ltb 0 (length b) (omega arith), ne-eqb (length b % 64) 0 h)
 
-    -- the stated bits as whole bytes
-    module _ (blocks : length b % 64 ≡ 0) (x : ℕ) (stated : x ≡ statedBits b) (r : InBytes) (is : r ≡ bytesOfBits (record { 0 = x })) where
-      pub broken-byte : not (r .exact) ≡ true → false ≡ isPadded b
+-- whole blocks, and their stated bits as whole bytes: what the first calls answered
+pub record Stated (b : List ℕ) : Type 0 where
+  pub some : length b ≡ 0 → ⊥
+  pub blocks : length b % 64 ≡ 0
+  pub bits : ℕ
+  pub stated : bits ≡ statedBits b
+  pub bytes : InBytes
+  pub is : bytes ≡ bytesOfBits (record { 0 = bits })
+
+module _ (b : List ℕ) (s : Stated b) where
+  some-bytes : 0 < length b
+  some-bytes = let none = s .some in omega arith
+
+  pub broken-byte : not (s .bytes .exact) ≡ true → false ≡ isPadded b
+  unfolding isPadded rightCount
+  broken-byte h =
+      let none = refutes-no (ap (λ a. a .exact) (sym (s .is)) ∙ not-true (s .bytes .exact) h) (λ (p : s .bits % 8 ≡ 0). ap (λ a. a .exact) (bytes-are (record { 0 = s .bits }) p)) in
+      simp (lt-ltb 0 (length b) some-bytes, eq-eqb (length b % 64) 0 (s .blocks), ne-eqb (statedBits b % 8) 0 (λ z. none (ap (λ n. n % 8) (s .stated) ∙ z)))
+
+  module _ (exact : not (s .bytes .exact) ≡ false) where
+    even : s .bits % 8 ≡ 0
+    even = whole (record { 0 = s .bits }) (ap (λ a. a .exact) (sym (s .is)) ∙ not-false (s .bytes .exact) exact)
+
+    value : s .bytes .bytes .0 ≡ statedBits b / 8
+    value = ap (λ a. a .bytes .0) (s .is ∙ bytes-are (record { 0 = s .bits }) even) ∙ ap (λ n. n / 8) (s .stated)
+
+    module _ (n : ℕ) (count : n ≡ blockCount (s .bytes .bytes .0)) where
+      pub count-fits : s .bits < 2 ^ 64 → 64 * n < 2 ^ 64
+      unfolding blockCount
+      count-fits h = let known = value in let same = s .stated in omega arith
+
+      pub wrong-count : (64 * n ≡ length b → ⊥) → false ≡ isPadded b
       unfolding isPadded rightCount
-      broken-byte h =
-          let none = refutes-no (ap (λ a. a .exact) (sym is) ∙ not-true (r .exact) h) (λ (p : x % 8 ≡ 0). ap (λ a. a .exact) (bytes-are (record { 0 = x }) p)) in
-          simp (lt-ltb 0 (length b) (omega arith), eq-eqb (length b % 64) 0 blocks, ne-eqb (statedBits b % 8) 0 (λ z. none (ap (λ n. n % 8) stated ∙ z)))
+      wrong-count h =
+          simp (
+            lt-ltb 0 (length b) some-bytes,
+            eq-eqb (length b % 64) 0 (s .blocks),
+            eq-eqb (statedBits b % 8) 0 (ap (λ n. n % 8) (sym (s .stated)) ∙ even),
+            ne-eqb (64 * blockCount (statedBits b / 8)) (length b) (λ z. h (ap (λ n. 64 * n) (count ∙ ap blockCount value) ∙ z)),
+          )
 
-      module _ (exact : not (r .exact) ≡ false) where
-        even : x % 8 ≡ 0
-        even = whole (record { 0 = x }) (ap (λ a. a .exact) (sym is) ∙ not-false (r .exact) exact)
+      module _ (right : 64 * n ≡ length b) where
+        pub byte-there : s .bytes .bytes .0 + 9 ≤ length b
+        unfolding blockCount
+        byte-there = omega arith
 
-        value : r .bytes .0 ≡ statedBits b / 8
-        value = ap (λ a. a .bytes .0) (is ∙ bytes-are (record { 0 = x }) even) ∙ ap (λ n. n / 8) stated
+        pub then-fill : rightFill (s .bytes .bytes .0) b ≡ isPadded b
+        unfolding isPadded rightCount
+        then-fill =
+            rw (
+              value,
+              lt-ltb 0 (length b) some-bytes,
+              eq-eqb (length b % 64) 0 (s .blocks),
+              eq-eqb (statedBits b % 8) 0 (ap (λ n. n % 8) (sym (s .stated)) ∙ even),
+              eq-eqb (64 * blockCount (statedBits b / 8)) (length b) (ap (λ n. 64 * n) (sym (count ∙ ap blockCount value)) ∙ right),
+            )
 
-        module _ (n : ℕ) (count : n ≡ blockCount (r .bytes .0)) where
-          pub count-fits : x < 2 ^ 64 → 64 * n < 2 ^ 64
-          unfolding blockCount
-          count-fits h = let known = value in omega arith
-
-          pub wrong-count : (64 * n ≡ length b → ⊥) → false ≡ isPadded b
-          unfolding isPadded rightCount
-          wrong-count h =
-              simp (
-                lt-ltb 0 (length b) (omega arith),
-                eq-eqb (length b % 64) 0 blocks,
-                eq-eqb (statedBits b % 8) 0 (ap (λ n. n % 8) (sym stated) ∙ even),
-                ne-eqb (64 * blockCount (statedBits b / 8)) (length b) (λ z. h (ap (λ n. 64 * n) (count ∙ ap blockCount value) ∙ z)),
-              )
-
-          module _ (right : 64 * n ≡ length b) where
-            pub byte-there : r .bytes .0 + 9 ≤ length b
-            unfolding blockCount
-            byte-there = omega arith
-
-            pub then-fill : rightFill (r .bytes .0) b ≡ isPadded b
-            unfolding isPadded rightCount
-            then-fill =
-                rw (
-                  value,
-                  lt-ltb 0 (length b) (omega arith),
-                  eq-eqb (length b % 64) 0 blocks,
-                  eq-eqb (statedBits b % 8) 0 (ap (λ n. n % 8) (sym stated) ∙ even),
-                  eq-eqb (64 * blockCount (statedBits b / 8)) (length b) (ap (λ n. 64 * n) (sym (count ∙ ap blockCount value)) ∙ right),
-                )
-
+module _ (b : List ℕ) where
   -- what is known where all the tests hold
   pub record Padded : Type 0 where
     pub some : 0 < length b
@@ -106,7 +118,7 @@ module _ (b : List ℕ) where
   unfolding removeNumber
   accepts h = rw h
 
-  pub refuses : isPadded b ≡ false → not-padded ≡ removeNumber b
+  pub refuses : isPadded b ≡ false → notPadded ≡ removeNumber b
   unfolding removeNumber
   refuses h = rw h
 

@@ -9,15 +9,16 @@ use borrow.Author.Tests.{lt-ltb, le-ltb, eq-eqb, ne-eqb, eqb-false}
 use lib.Dec.{eqb}
 use lib.ListN.{length, take, drop}
 use lib.Seq.{length-take-le}
-use Rattle.refusal.specs.Table.{accepted, too-long, wrong-size, other-tail, no-such-block}
-use Rattle.same.specs.Same.{same}
+use Rattle.refusal.specs.Table.{accepted, tooLong, wrongSize, otherTail, noSuchBlock}
+use Rattle.buffers.specs.Same.{same}
 use Rattle.word.specs.BigEndian.{AreBytes}
 use Rattle.units.specs.declared.InBits.{InBits}
 use Rattle.units.specs.Units.{bitsOf}
 use Rattle.standard.specs.Standard.{rest}
 use Rattle.standard.proofs.Folding.{length-rest}
-use Rattle.padding.specs.declared.Written.{Written}
-use Rattle.padding.specs.Padding.{longest, zeros, padding, blockCount}
+use Rattle.refusal.specs.declared.Written.{Written}
+use Rattle.units.specs.Units.{longest}
+use Rattle.padding.specs.Padding.{zeros, padding, blockCount}
 use Rattle.padding.specs.Writing.{tailOf, tailSize, tailAnswer}
 use Rattle.padding.proofs.Tails.{length-bits, fills, fills-blocks, cases, refused-long, refused-size, accepts, accepted-when}
 use Rattle.padding.proofs.Wholes.{lastPart, last-part}
@@ -48,21 +49,21 @@ module _ (s t : List ℕ) (all : AreBytes t) (w : length s ≤ longest) (long : 
   right-tail h f x stated bits is = rw (stated, length-bits (length s) bits w is) (sym (tail-tests ∙ rw (h, f)))
 
 module _ (s b : List ℕ) (i : ℕ) where
-  pub view-long : longest < length s → viewNumber s b i ≡ too-long
+  pub view-long : longest < length s → viewNumber s b i ≡ tooLong
   unfolding viewNumber
   view-long l = simp (lt-ltb longest (length s) l)
 
   module _ (w : length s ≤ longest) where
-    pub view-short : length b < tailSize (length s) → viewNumber s b i ≡ wrong-size
+    pub view-short : length b < tailSize (length s) → viewNumber s b i ≡ wrongSize
     unfolding viewNumber
     view-short h = simp (le-ltb longest (length s) w, lt-ltb (length b) (tailSize (length s)) h)
 
     module _ (r : tailSize (length s) ≤ length b) where
-      pub view-other : same (take (tailSize (length s)) b) (tailOf s) ≡ false → viewNumber s b i ≡ other-tail
+      pub view-other : same (take (tailSize (length s)) b) (tailOf s) ≡ false → viewNumber s b i ≡ otherTail
       unfolding viewNumber
       view-other h = simp (le-ltb longest (length s) w, le-ltb (length b) (tailSize (length s)) r, h)
 
-      pub view-past : same (take (tailSize (length s)) b) (tailOf s) ≡ true → blockCount (length s) ≤ i → viewNumber s b i ≡ no-such-block
+      pub view-past : same (take (tailSize (length s)) b) (tailOf s) ≡ true → blockCount (length s) ≤ i → viewNumber s b i ≡ noSuchBlock
       unfolding viewNumber
       view-past h p = simp (le-ltb longest (length s) w, le-ltb (length b) (tailSize (length s)) r, h, le-ltb i (blockCount (length s)) p)
 
@@ -71,27 +72,27 @@ module _ (s b : List ℕ) (i : ℕ) where
       view-accepts h p = simp (le-ltb longest (length s) w, le-ltb (length b) (tailSize (length s)) r, h, lt-ltb i (blockCount (length s)) p)
 
   -- what the writer refuses, the view refuses by the same number
-  pub view-refused : (answer : Written) → answer ≡ tailAnswer (length s) (length b) → (answer .no ≡ accepted → ⊥) → answer .no ≡ viewNumber s b i
+  pub view-refused : (answer : Written) → answer ≡ tailAnswer (length s) (length b) → (answer .number ≡ accepted → ⊥) → answer .number ≡ viewNumber s b i
   view-refused answer is h =
       cases (length s) (length b)
-      (λ l. ap (λ r. r .no) (is ∙ refused-long (length s) (length b) l) ∙ sym (view-long l))
-      (λ w r. ap (λ r. r .no) (is ∙ refused-size (length s) (length b) w r) ∙ sym (view-short w r))
-      (λ w r. absurd (h (ap (λ r. r .no) (is ∙ accepts (length s) (length b) w r))))
+      (λ l. ap (λ r. r .number) (is ∙ refused-long (length s) (length b) l) ∙ sym (view-long l))
+      (λ w r. ap (λ r. r .number) (is ∙ refused-size (length s) (length b) w r) ∙ sym (view-short w r))
+      (λ w r. absurd (h (ap (λ r. r .number) (is ∙ accepts (length s) (length b) w r))))
 
   -- the answer accepts: what the comparison of the tail needs, and what follows from it
-  module _ (answer : Written) (is : answer ≡ tailAnswer (length s) (length b)) (ok : answer .no ≡ accepted) where
+  module _ (answer : Written) (is : answer ≡ tailAnswer (length s) (length b)) (ok : answer .number ≡ accepted) where
     pub tail-there : length (take (answer .count) b) ≡ answer .count
     tail-there = let known = accepted-when (length s) (length b) answer is ok in length-take-le (answer .count) b (omega arith)
 
     pub tail-fits : (length s ≤ longest) × (length (take (answer .count) b) ≡ tailSize (length s))
     tail-fits = let known = accepted-when (length s) (length b) answer is ok in (known .within, tail-there ∙ known .size)
 
-    pub answers-other : same (take (answer .count) b) (tailOf s) ≡ false → other-tail ≡ viewNumber s b i
+    pub answers-other : same (take (answer .count) b) (tailOf s) ≡ false → otherTail ≡ viewNumber s b i
     answers-other h =
         let known = accepted-when (length s) (length b) answer is ok in
         sym (view-other (known .within) (known .roomy) (ap (λ n. same (take n b) (tailOf s)) (sym (known .size)) ∙ h))
 
-    pub answers-past : same (take (answer .count) b) (tailOf s) ≡ true → blockCount (length s) ≤ i → no-such-block ≡ viewNumber s b i
+    pub answers-past : same (take (answer .count) b) (tailOf s) ≡ true → blockCount (length s) ≤ i → noSuchBlock ≡ viewNumber s b i
     answers-past h p =
         let known = accepted-when (length s) (length b) answer is ok in
         sym (view-past (known .within) (known .roomy) (ap (λ n. same (take n b) (tailOf s)) (sym (known .size)) ∙ h) p)
@@ -124,18 +125,18 @@ module _ (s b : List ℕ) (i : ℕ) where
     other-number : {y : ℕ} → eqb x y ≡ false → viewNumber s b i ≡ y → P
     other-number {y} h f = absurd (eqb-false x y h (sym e ∙ f))
 
-    pub not-long : eqb x too-long ≡ false → longest < length s → P
+    pub not-long : eqb x tooLong ≡ false → longest < length s → P
     not-long h l = other-number h (view-long l)
 
-    pub not-short : eqb x wrong-size ≡ false → length s ≤ longest → length b < tailSize (length s) → P
+    pub not-short : eqb x wrongSize ≡ false → length s ≤ longest → length b < tailSize (length s) → P
     not-short h w r = other-number h (view-short w r)
 
     pub not-other :
-        eqb x other-tail ≡ false → length s ≤ longest → tailSize (length s) ≤ length b → same (take (tailSize (length s)) b) (tailOf s) ≡ false → P
+        eqb x otherTail ≡ false → length s ≤ longest → tailSize (length s) ≤ length b → same (take (tailSize (length s)) b) (tailOf s) ≡ false → P
     not-other h w r o = other-number h (view-other w r o)
 
     pub not-past :
-        eqb x no-such-block ≡ false →
+        eqb x noSuchBlock ≡ false →
         length s ≤ longest → tailSize (length s) ≤ length b → same (take (tailSize (length s)) b) (tailOf s) ≡ true → blockCount (length s) ≤ i → P
     not-past h w r t p = other-number h (view-past w r t p)
 
@@ -156,24 +157,7 @@ module _ (s b : List ℕ) (i : ℕ) where
       view-cases (not-long h refl) (not-short h refl) (not-other h refl) (not-past h refl)
       (λ w r t p. record { within = w; roomy = r; tail = t; below = p })
 
-  pub no-part : (viewNumber s b i ≡ accepted → ⊥) → [] ≡ viewPart s b i
-  unfolding viewPart
-  no-part h = rw (← (in-neither s b i h))
-
-  module _ (ok : viewNumber s b i ≡ accepted) where
-    pub inside : i < length s / 64 → take (64 * i + 64 - 64 * i) (drop (64 * i) s) ≡ viewPart s b i
-    unfolding viewPart
-    inside h =
-        let size : 64 * i + 64 - 64 * i ≡ 64 = omega arith in
-        rw (← (in-message s b i ok h), size)
-
-    module _ (h : length s / 64 ≤ i) where
-      pub tail-room : 64 * (i - length s / 64) + 64 ≤ length b
-      unfolding blockCount
-      tail-room = let known = viewed ok in omega (arith, fills-blocks (length s))
-
-      pub in-tail : take (64 * (i - length s / 64) + 64 - 64 * (i - length s / 64)) (drop (64 * (i - length s / 64)) b) ≡ viewPart s b i
-      unfolding viewPart
-      in-tail =
-          let size : 64 * (i - length s / 64) + 64 - 64 * (i - length s / 64) ≡ 64 = omega arith in
-          rw (← (in-buffer s b i ok h), size)
+  -- a block that lies in the buffer has room there
+  pub tail-room : viewNumber s b i ≡ accepted → length s / 64 ≤ i → 64 * (i - length s / 64) + 64 ≤ length b
+  unfolding blockCount
+  tail-room ok h = let known = viewed ok in omega (arith, fills-blocks (length s))

@@ -5,20 +5,21 @@ use mathlib.Core.Bool.{cond}
 use lib.Dec.{ltb, eqb}
 use lib.ListN.{length, take, drop}
 use denote.Ref.{RefT}
-use Rattle.refusal.specs.Table.{accepted, too-long, wrong-size, other-tail, no-such-block}
-use Rattle.same.specs.Same.{same}
-use Rattle.padding.specs.Padding.{longest, blockCount}
+use Rattle.refusal.specs.Table.{accepted, tooLong, wrongSize, otherTail, noSuchBlock}
+use Rattle.buffers.specs.Same.{same}
+use Rattle.units.specs.Units.{longest}
+use Rattle.padding.specs.Padding.{blockCount}
 use Rattle.padding.specs.Writing.{tailOf, tailSize}
 use Rattle.padded.specs.declared.Place.{Place}
 
 -- the number for block i of the padded message, given the message and the tail buffer
 unfoldable pub viewNumber : List ℕ → List ℕ → ℕ → ℕ
 viewNumber message buffer i =
-    cond (ltb longest (length message)) too-long
-    (cond (ltb (length buffer) (tailSize (length message))) wrong-size
+    cond (ltb longest (length message)) tooLong
+    (cond (ltb (length buffer) (tailSize (length message))) wrongSize
     (cond (same (take (tailSize (length message)) buffer) (tailOf message))
-    (cond (ltb i (blockCount (length message))) accepted no-such-block)
-    other-tail))
+    (cond (ltb i (blockCount (length message))) accepted noSuchBlock)
+    otherTail))
 
 -- Where a part lies: which of the two it is part of, from which byte, and how many
 abbrev pub inNeither : ℕ

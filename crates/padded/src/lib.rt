@@ -7,14 +7,11 @@ use refusal::NOT_PADDED;
 use refusal::OTHER_TAIL;
 use units::Bits;
 use units::Bytes;
-
-mod bytes;
-
 ghost use mathlib.Core.Path.{_≡_};
 ghost use Prim.Native.Nat.{_+_, _≤_};
 ghost use lib.ListN.{length};
-ghost use Rattle.same.specs.Same.{same};
-ghost use Rattle.padding.specs.Padding.{longest};
+ghost use Rattle.buffers.specs.Same.{same};
+ghost use Rattle.units.specs.Units.{longest};
 ghost use Rattle.padding.specs.Writing.{tailOf, tailSize};
 ghost use Rattle.padded.specs.Viewing.{viewNumber, viewPart, viewPlace, viewAddress};
 ghost use Rattle.padded.specs.Removing.{statedBits, rightFill, isPadded, removeNumber, removeLength, removePart};
@@ -38,8 +35,13 @@ fn stated_bits(bytes: &[u8]) -> u64
     requires { ⌜ 8 ≤ length (now bytes) ⌝ }
     ensures { λ r. ⌜ r ≡ statedBits (now (bytes .entry)) ⌝ }
 {
-    let from = bytes.len() - 8;
-    bytes::number(&bytes[from..])
+    let mut bits: u64 = 0;
+    let mut i = bytes.len() - 8;
+    while i < bytes.len() {
+        bits = bits * 256 + (bytes[i] as u64);
+        i += 1;
+    }
+    bits
 }
 
 // Whether byte m is 80 hex and all bytes between it and the last eight are zero.
@@ -52,7 +54,7 @@ fn right_fill(bytes: &[u8], m: usize) -> bool
     }
     let from = m + 1;
     let end = bytes.len() - 8;
-    bytes::all_zero(&bytes[from..end])
+    buffers::all_zero(&bytes[from..end])
 }
 
 // Whether the tail is what the writer puts there. It is compared where it lies.
@@ -63,7 +65,7 @@ fn holds_tail(message: &[u8], tail: &[u8]) -> bool
     let m = message.len();
     let kept = m % 64;
     let whole = m / 64 * 64;
-    if !same::bytes(&tail[..kept], &message[whole..]) {
+    if !buffers::same(&tail[..kept], &message[whole..]) {
         return false;
     }
     if !right_fill(tail, kept) {
@@ -79,8 +81,8 @@ pub fn view_number(message: &[u8], buffer: &[u8], i: usize) -> u8
 {
     let m = Bytes(message.len() as u64);
     let answer = tail_answer(m, buffer.len());
-    if answer.no != ACCEPTED {
-        return answer.no;
+    if answer.number != ACCEPTED {
+        return answer.number;
     }
     let size = answer.count;
     if !holds_tail(message, &buffer[..size]) {
@@ -93,26 +95,7 @@ pub fn view_number(message: &[u8], buffer: &[u8], i: usize) -> u8
     }
 }
 
-// Block i: a part of the message where it lies wholly inside it, else a part of the tail buffer. Nothing is copied.
-pub fn view_part<'a>(message: &'a [u8], buffer: &'a [u8], i: usize) -> &'a [u8]
-    ensures { λ r. ⌜ now r ≡ viewPart (now (message .entry)) (now (buffer .entry)) i ⌝ }
-    ensures { λ r. ⌜ r .ptr ≡ viewAddress (message .entry) (buffer .entry) i ⌝ }
-{
-    if view_number(message, buffer, i) != ACCEPTED {
-        return &buffer[..0];
-    }
-    let whole = message.len() / 64;
-    if i < whole {
-        let from = 64 * i;
-        let to = from + 64;
-        return &message[from..to];
-    }
-    let from = 64 * (i - whole);
-    let to = from + 64;
-    &buffer[from..to]
-}
-
-// Where block i lies.
+// Where block i lies: in the message where it lies wholly inside it, else in the tail buffer; a refused one in neither.
 pub fn view_place(message: &[u8], buffer: &[u8], i: usize) -> Place
     ensures { λ r. ⌜ r ≡ viewPlace (now (message .entry)) (now (buffer .entry)) i ⌝ }
 {
@@ -136,6 +119,20 @@ pub fn view_place(message: &[u8], buffer: &[u8], i: usize) -> Place
         offset: 64 * (i - inside),
         length: 64,
     }
+}
+
+// The bytes of block i, where they lie. Nothing is copied; a refused part is empty, at the buffer's front.
+pub fn view_part<'a>(message: &'a [u8], buffer: &'a [u8], i: usize) -> &'a [u8]
+    ensures { λ r. ⌜ now r ≡ viewPart (now (message .entry)) (now (buffer .entry)) i ⌝ }
+    ensures { λ r. ⌜ r .ptr ≡ viewAddress (message .entry) (buffer .entry) i ⌝ }
+{
+    let place = view_place(message, buffer, i);
+    let from = place.offset;
+    let to = from + place.length;
+    if place.which == IN_MESSAGE {
+        return &message[from..to];
+    }
+    &buffer[from..to]
 }
 
 // Whether the bytes are a padded message.

@@ -1,4 +1,4 @@
 pub mod Stores
 pub mod Tails
 pub mod Wholes
-pub mod Kept
+pub mod Proved

@@ -8,15 +8,17 @@ use native.Mathlib.Nat.{mul-comm}
 use native.Mathlib.Omega.{arith}
 use borrow.Author.Tests.{lt-ltb, le-ltb, eq-eqb, ne-eqb, eqb-false}
 use lib.ListN.{length, take, drop, replicate, length-append, length-replicate}
-use Rattle.refusal.specs.Table.{accepted, too-long, wrong-size}
-use Rattle.padding.specs.Padding.{longest, zeros, padding, blockCount}
+use Rattle.refusal.specs.Table.{accepted, tooLong, wrongSize}
+use Rattle.units.specs.Units.{longest}
+use Rattle.padding.specs.Padding.{zeros, padding, blockCount}
 use Rattle.word.specs.BigEndian.{bigEndian}
 use Rattle.word.proofs.BigEndian.{length-bigEndian}
 use Rattle.units.specs.declared.InBits.{InBits}
 use Rattle.units.specs.Units.{bitsOf}
 use Rattle.units.proofs.Exact.{bits-are}
-use Rattle.padding.specs.declared.Written.{Written}
-use Rattle.padding.specs.Writing.{tailSize, tailAnswer, tailAfter, refusedBy, wrote}
+use Rattle.refusal.specs.declared.Written.{Written}
+use Rattle.refusal.specs.Table.{refusedBy, wrote}
+use Rattle.padding.specs.Writing.{tailSize, tailAnswer, tailAfter}
 
 pub one-block : (m : ℕ) → m % 64 < 56 → tailSize m ≡ 64
 unfolding tailSize
@@ -48,11 +50,11 @@ pub at-most-128 : (m : ℕ) → tailSize m ≤ 128
 at-most-128 m = ⊎-elim (λ one. omega arith) (λ two. omega arith) (one-or-two m)
 
 module _ (m room : ℕ) where
-  pub refused-long : longest < m → tailAnswer m room ≡ refusedBy too-long
+  pub refused-long : longest < m → tailAnswer m room ≡ refusedBy tooLong
   unfolding tailAnswer
   refused-long h = simp (lt-ltb longest m h)
 
-  pub refused-size : m ≤ longest → room < tailSize m → tailAnswer m room ≡ refusedBy wrong-size
+  pub refused-size : m ≤ longest → room < tailSize m → tailAnswer m room ≡ refusedBy wrongSize
   unfolding tailAnswer
   refused-size h s = simp (le-ltb longest m h, lt-ltb room (tailSize m) s)
 
@@ -78,11 +80,11 @@ module _ (m room : ℕ) where
     pub size : answer .count ≡ tailSize m
     pub roomy : tailSize m ≤ room
 
-  pub accepted-when : (answer : Written) → answer ≡ tailAnswer m room → answer .no ≡ accepted → Accepted answer
+  pub accepted-when : (answer : Written) → answer ≡ tailAnswer m room → answer .number ≡ accepted → Accepted answer
   accepted-when answer e h =
       cases
-      (λ l. absurd (eqb-false 0 10 refl (sym h ∙ ap (λ r. r .no) (e ∙ refused-long l))))
-      (λ w s. absurd (eqb-false 0 11 refl (sym h ∙ ap (λ r. r .no) (e ∙ refused-size w s))))
+      (λ l. absurd (eqb-false 0 10 refl (sym h ∙ ap (λ r. r .number) (e ∙ refused-long l))))
+      (λ w s. absurd (eqb-false 0 11 refl (sym h ∙ ap (λ r. r .number) (e ∙ refused-size w s))))
       (λ w r. record { within = w; size = ap (λ a. a .count) (e ∙ accepts w r); roomy = r })
 
 -- the padding's bytes, and with the m mod 64 bytes before them
@@ -94,7 +96,7 @@ pub fills-tail : (m : ℕ) → m % 64 + length (padding m) ≡ tailSize m
 fills-tail m = omega (arith, length-padding m, fills m)
 
 -- where the padding starts, its zeros end and its length ends
-module _ (m room : ℕ) (answer : Written) (is : answer ≡ tailAnswer m room) (ok : answer .no ≡ accepted) where
+module _ (m room : ℕ) (answer : Written) (is : answer ≡ tailAnswer m room) (ok : answer .number ≡ accepted) where
   pub starts : m % 64 < answer .count - 8
   starts = let known = accepted-when m room answer is ok in omega (arith, fills m)
 
@@ -110,14 +112,14 @@ length-bits m bits h e = ap (λ r. r .bits .0) (e ∙ bits-are (record { 0 = m }
 
 module _ (m : ℕ) (buffer : List ℕ) (answer : Written) (is : answer ≡ tailAnswer m (length buffer)) where
   -- refused: nothing is written
-  pub left-alone : (answer .no ≡ accepted → ⊥) → buffer ≡ tailAfter m buffer
+  pub left-alone : (answer .number ≡ accepted → ⊥) → buffer ≡ tailAfter m buffer
   unfolding tailAfter
-  left-alone h = simp (ne-eqb (tailAnswer m (length buffer) .no) accepted (λ z. h (ap (λ r. r .no) is ∙ z)))
+  left-alone h = simp (ne-eqb (tailAnswer m (length buffer) .number) accepted (λ z. h (ap (λ r. r .number) is ∙ z)))
 
-  module _ (ok : answer .no ≡ accepted) where
+  module _ (ok : answer .number ≡ accepted) where
     pub after : tailAfter m buffer ≡ take (m % 64) buffer ++ (padding m ++ drop (tailSize m) buffer)
     unfolding tailAfter
-    after = simp (eq-eqb (tailAnswer m (length buffer) .no) accepted (ap (λ r. r .no) (sym is) ∙ ok))
+    after = simp (eq-eqb (tailAnswer m (length buffer) .number) accepted (ap (λ r. r .number) (sym is) ∙ ok))
 
     -- accepted: what is written is the padding
     pub padded-behind : (bits : InBits) → bits ≡ bitsOf (record { 0 = m })
@@ -133,4 +135,4 @@ module _ (m : ℕ) (buffer : List ℕ) (answer : Written) (is : answer ≡ tailA
 -- a caller's buffer that is long enough, and a message that is not too long
 pub pads : (m : ℕ) (buffer : List ℕ) → m ≤ longest → tailSize m ≤ length buffer
     → tailAfter m buffer ≡ take (m % 64) buffer ++ (padding m ++ drop (tailSize m) buffer)
-pads m buffer w r = after m buffer (tailAnswer m (length buffer)) refl (ap (λ a. a .no) (accepts m (length buffer) w r))
+pads m buffer w r = after m buffer (tailAnswer m (length buffer)) refl (ap (λ a. a .number) (accepts m (length buffer) w r))

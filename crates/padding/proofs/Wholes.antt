@@ -7,11 +7,11 @@ use borrow.Author.Tests.{eq-eqb, ne-eqb}
 use lib.ListN.{length, take, drop, length-append, length-take, length-drop, take-append-drop}
 use lib.Seq.{take-all, take-at, drop-append-add, drop-drop}
 use Rattle.refusal.specs.Table.{accepted}
-use Rattle.copy.specs.Copy.{copied}
-use Rattle.copy.proofs.Copied.{copied-front}
+use Rattle.buffers.specs.Copy.{copied}
+use Rattle.buffers.proofs.Copied.{copied-front}
 use Rattle.standard.specs.Standard.{rest}
 use Rattle.standard.proofs.Folding.{length-rest}
-use Rattle.padding.specs.declared.Written.{Written}
+use Rattle.refusal.specs.declared.Written.{Written}
 use Rattle.padding.specs.Padding.{padding, padded, blockCount}
 use Rattle.padding.specs.Writing.{tailOf, tailSize, tailAnswer, tailAfter, written, bufferAfter}
 use Rattle.padding.proofs.Tails.{fills, fills-blocks, fills-tail, accepted-when, after}
@@ -29,11 +29,11 @@ module _ (s : List ℕ) where
   last-length = rw (length-take, length-drop (length s / 64 * 64) s) (omega arith)
 
   -- refused: nothing is written
-  pub unwritten : (buffer : List ℕ) (answer : Written) → answer ≡ tailAnswer (length s) (length buffer) → (answer .no ≡ accepted → ⊥) → buffer ≡ bufferAfter s buffer
+  pub unwritten : (buffer : List ℕ) (answer : Written) → answer ≡ tailAnswer (length s) (length buffer) → (answer .number ≡ accepted → ⊥) → buffer ≡ bufferAfter s buffer
   unfolding bufferAfter written
-  unwritten buffer answer is h = simp (ne-eqb (tailAnswer (length s) (length buffer) .no) accepted (λ z. h (ap (λ r. r .no) is ∙ z)))
+  unwritten buffer answer is h = simp (ne-eqb (tailAnswer (length s) (length buffer) .number) accepted (λ z. h (ap (λ r. r .number) is ∙ z)))
 
-  module _ (buffer : List ℕ) (answer : Written) (is : answer ≡ tailAnswer (length s) (length buffer)) (ok : answer .no ≡ accepted) where
+  module _ (buffer : List ℕ) (answer : Written) (is : answer ≡ tailAnswer (length s) (length buffer)) (ok : answer .number ≡ accepted) where
     last-fits : length lastPart ≤ length buffer
     last-fits = let known = accepted-when (length s) (length buffer) answer is ok in omega (arith, last-length, fills (length s))
 
@@ -61,13 +61,13 @@ module _ (s : List ℕ) where
       unfolding bufferAfter tailOf written
       written-leaves =
           after (length s) laid answer (is ∙ ap (tailAnswer (length s)) (sym as-long)) ok
-          ∙ rw (in-front, later, eq-eqb (tailAnswer (length s) (length buffer) .no) accepted (ap (λ r. r .no) (sym is) ∙ ok))
+          ∙ rw (in-front, later, eq-eqb (tailAnswer (length s) (length buffer) .number) accepted (ap (λ r. r .number) (sym is) ∙ ok))
           (sym (append-assoc (rest s) (padding (length s)) (drop (tailSize (length s)) buffer)))
 
 -- accepted: what the writer leaves
-pub tail-written : (s buffer : List ℕ) → written s buffer .no ≡ accepted → bufferAfter s buffer ≡ tailOf s ++ drop (tailSize (length s)) buffer
+pub tail-written : (s buffer : List ℕ) → written s buffer .number ≡ accepted → bufferAfter s buffer ≡ tailOf s ++ drop (tailSize (length s)) buffer
 unfolding bufferAfter
-tail-written s buffer ok = rw (eq-eqb (written s buffer .no) accepted ok)
+tail-written s buffer ok = rw (eq-eqb (written s buffer .number) accepted ok)
 
 -- the lengths of a padded message and of its tail
 pub padded-length : (s : List ℕ) → length (padded s) ≡ 64 * blockCount (length s)

@@ -4,12 +4,8 @@ use mathlib.Core.List.{List, _∷_, _++_}
 use lib.ListN.{length, replicate}
 use Rattle.word.specs.BigEndian.{bigEndian}
 
--- demand 2: "every message of whole bytes up to 2^61 - 1 of them"
-abbrev pub longest : ℕ
-longest = 2 ^ 61 - 1
-
--- "the fewest zero bytes that make the length 56 modulo 64": the length after the byte 80 is m + 1. Document 003 counts bits: its 1 and the first seven of
--- its k zeros are the byte 80, so k = 8 * zeros m + 7 (the promise `zeros-in-bits`)
+-- "the fewest zero bytes that make the length 56 modulo 64": the length after the byte 80 is m + 1. Document 003 counts bits: its 1 and
+-- the first seven of its k zeros are the byte 80, so k = 8 * zeros m + 7 (the promise `zeros-in-bits`)
 unfoldable pub zeros : ℕ → ℕ
 zeros m = (119 - m % 64) % 64
 

@@ -2,21 +2,15 @@
 use refusal::ACCEPTED;
 use refusal::TOO_LONG;
 use refusal::WRONG_SIZE;
+use refusal::Written;
 use units::Bytes;
-
-mod bytes;
-
 ghost use mathlib.Core.Path.{_≡_};
-ghost use lib.ListN.{length};
+ghost use mathlib.Core.List.{_∷_, _++_};
+ghost use Prim.Native.Nat.{_+_, _-_, _≤_, _<_};
+ghost use lib.ListN.{length, take, drop, replicate};
+ghost use Rattle.word.specs.BigEndian.{bigEndian};
 ghost use Rattle.padding.specs.Padding.{blockCount};
 ghost use Rattle.padding.specs.Writing.{tailSize, tailAnswer, tailAfter, written, bufferAfter};
-
-// What the padding writer answers: its number, and 64 or 128, the bytes that it wrote (0 where it refuses).
-#[repr(C)]
-pub struct Written {
-    pub no: u8,
-    pub count: usize,
-}
 
 // The blocks of a padded message of m bytes. No sum here can overflow, as m + 8 could.
 pub fn block_count(m: Bytes) -> u64
@@ -42,20 +36,33 @@ pub fn tail_answer(m: Bytes, room: usize) -> Written
     let count = tail_size(m);
     if !exact {
         return Written {
-            no: TOO_LONG,
+            number: TOO_LONG,
             count: 0,
         };
     }
     if room < count {
         return Written {
-            no: WRONG_SIZE,
+            number: WRONG_SIZE,
             count: 0,
         };
     }
     Written {
-        no: ACCEPTED,
+        number: ACCEPTED,
         count,
     }
+}
+
+// The byte 80 at one index, zeros up to another, and from there a number as eight bytes.
+fn close(dst: &mut [u8], from: usize, to: usize, number: u64)
+    requires { ⌜ (from < to) × (to + 8 ≤ length (now dst)) ⌝ }
+    ensures { λ _. ⌜ now (dst .exit)
+        ≡ take from (now (dst .entry))
+        ++ ((0x80 ∷ (replicate (to - (from + 1)) 0 ++ bigEndian 8 number)) ++ drop (to + 8) (now (dst .entry))) ⌝ }
+{
+    dst[from] = 0x80;
+    buffers::clear(dst, from + 1, to);
+    let eight = word::eight_bytes_of(number);
+    buffers::copy(dst, to, &eight);
 }
 
 // Writes the padding of m bytes behind the m mod 64 bytes that stand at the front of the buffer.
@@ -64,12 +71,12 @@ pub fn pad(buffer: &mut [u8], m: Bytes) -> Written
     ensures { λ _. ⌜ now (buffer .exit) ≡ tailAfter (m .0) (now (buffer .entry)) ⌝ }
 {
     let answer = tail_answer(m, buffer.len());
-    if answer.no != ACCEPTED {
+    if answer.number != ACCEPTED {
         return answer;
     }
     let kept = (m.0 % 64) as usize;
     let length = m.bits();
-    bytes::close(buffer, kept, answer.count - 8, length.bits.0);
+    close(buffer, kept, answer.count - 8, length.bits.0);
     answer
 }
 
@@ -80,10 +87,10 @@ pub fn write(message: &[u8], buffer: &mut [u8]) -> Written
 {
     let m = Bytes(message.len() as u64);
     let foreseen = tail_answer(m, buffer.len());
-    if foreseen.no != ACCEPTED {
+    if foreseen.number != ACCEPTED {
         return foreseen;
     }
     let whole = message.len() / 64 * 64;
-    copy::bytes(buffer, 0, &message[whole..]);
+    buffers::copy(buffer, 0, &message[whole..]);
     pad(buffer, m)
 }

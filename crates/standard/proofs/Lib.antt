@@ -3,4 +3,5 @@ pub mod Choice
 pub mod Expansion
 pub mod Rounds
 pub mod HashValue
-pub mod Kept
+pub mod Page
+pub mod Proved

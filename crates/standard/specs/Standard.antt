@@ -1,5 +1,5 @@
--- The SM3 standard's page (document 003), line by line and with its names where it has any; in its order, save that the iteration (5.3.1) stands behind the compression
--- function that it calls. Its padding (5.2) is the crate padding's, and the whole (5.1) the crate hash's.
+-- The SM3 standard's page (document 003), line by line and with its names where it has any; in its order, save that the iteration (5.3.1)
+-- stands behind the compression function that it calls. Its padding (5.2) is the crate padding's, and the whole (5.1) the crate hash's.
 -- Document 01's condensed form says the same; where 003 misprints W'j as Wj in TT1, 01 decides.
 use Prim.Native.Nat.{ℕ, zero, suc, _+_, _*_, _-_, _/_, _%_, _^_}
 use mathlib.Core.List.{List, [], _∷_, _++_}

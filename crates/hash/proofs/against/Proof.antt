@@ -14,7 +14,7 @@ returns-2 : tie.Need-returns-2
 returns-2 c = sym (compared-size _ _ (c .before .if1 .left) (c .if2 .taken))
 
 returns-3 : tie.Need-returns-3
-returns-3 c = ap (λ (b : Bool). record { no = accepted; same = b }) (c .bytes3 .ensures) ∙ sym (compared-same _ _ (c .before .before .before .before .if1 .left) (c .before .before .before .if2 .left))
+returns-3 c = ap (λ (b : Bool). record { number = accepted; same = b }) (c .same .ensures) ∙ sym (compared-same _ _ (c .before .before .before .before .if1 .left) (c .before .before .before .if2 .left))
 
 pub against-spec : {M : Type 1} → statement M
 against-spec =

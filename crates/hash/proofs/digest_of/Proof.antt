@@ -16,7 +16,7 @@ use Rattle.hash.proofs.digest_of.Tie as tie
 abbrev message : tie.After-write → List ℕ
 message c = now (c .before .before .before .args .message)
 
-held : (c : tie.After-write) → c .write .result .no ≡ accepted → Holds (c .write .last .1 .0) (c .write .result .count) (tailOf (message c))
+held : (c : tie.After-write) → c .write .result .number ≡ accepted → Holds (c .write .last .1 .0) (c .write .result .count) (tailOf (message c))
 held c = message-holds (message c) _ _ (c .write .ensures .0) (c .write .ensures .1)
 
 returns : tie.Need-returns
@@ -36,7 +36,7 @@ returns-2 c =
     let at-write = c .before .before .before .before .before .before in
     let ok = c .before .before .before .if1 .left in
     c .ended .ensures
-    ∙ ap₂ (λ (w : Words) (s : List ℕ). record { no = accepted; bytes = hashValue (folded w s) }) (c .before .before .fold .ensures) (held at-write ok .are)
+    ∙ ap₂ (λ (w : Words) (s : List ℕ). record { number = accepted; bytes = hashValue (folded w s) }) (c .before .before .fold .ensures) (held at-write ok .are)
     ∙ message-digest (message at-write) _ _ (at-write .write .ensures .0) (at-write .write .ensures .1) ok
 
 pub digest-of-spec : {M : Type 1} → statement M

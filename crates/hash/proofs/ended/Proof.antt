@@ -9,7 +9,7 @@ use Rattle.hash.proofs.ended.Statement.{statement}
 use Rattle.hash.proofs.ended.Tie as tie
 
 returns : tie.Need-returns
-returns c = ap (λ (b : List ℕ). record { no = accepted; bytes = b }) (c .hash-value .ensures ∙ ap hashValue (c .before .fold .ensures))
+returns c = ap (λ (b : List ℕ). record { number = accepted; bytes = b }) (c .hash-value .ensures ∙ ap hashValue (c .before .fold .ensures))
 
 pub ended-spec : {M : Type 1} → statement M
 ended-spec = tie.close (tie.spec (λ c κs. search needs) (λ c κs. search needs) returns)

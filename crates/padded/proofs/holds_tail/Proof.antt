@@ -4,37 +4,41 @@ use native.Mathlib.Omega.{arith}
 use borrow.Author.Needs.{needs}
 use lib.ListN.{length}
 use lib.Seq.{length-take-le}
-use Rattle.same.proofs.Tests.{refuted, confirmed}
+use Rattle.truth.proofs.Tests.{refuted, confirmed}
 use Rattle.padding.proofs.Tails.{fills}
 use Rattle.padded.proofs.Parts.{are-bytes}
 use Rattle.padded.proofs.Viewed.{other-front, other-fill, right-tail}
 use Rattle.padded.proofs.holds_tail.Statement.{statement}
 use Rattle.padded.proofs.holds_tail.Tie as tie
 
-slice-aggregate-bytes : tie.Need-slice-aggregate-bytes
-slice-aggregate-bytes c =
+slice-aggregate-same : tie.Need-slice-aggregate-same
+slice-aggregate-same c =
     let start = c .before .before .before in
     sym (length-take-le _ _ (omega (arith, fills (length (start .args .message .now)), start .pre .1)))
 
 returns : tie.Need-returns
 returns c =
-    let start = c .before .before .before .before .before .before in
-    other-front _ _ (are-bytes _ (c .before .before .before .before .shared-slice-known2 .given)) (start .pre .0) (start .pre .1) (refuted (c .before .bytes .ensures) (c .if1 .taken))
+    let front = c .before in
+    let start = front .before .before .before .before .before in
+    other-front _ _ (are-bytes _ (front .before .before .before .shared-slice-known2 .given)) (start .pre .0) (start .pre .1) (refuted (front .same .ensures) (c .if1 .taken))
 
 right-fill-requires : tie.Need-right-fill-requires
 right-fill-requires c κs =
-    let start = c .before .before .before .before .before .before in
+    let front = c .before in
+    let start = front .before .before .before .before .before in
     omega (arith, fills (length (start .args .message .now)), start .pre .1)
 
 returns-2 : tie.Need-returns-2
 returns-2 c =
-    let start = c .before .before .before .before .before .before .before .before in
-    other-fill _ _ (are-bytes _ (c .before .before .before .before .before .before .shared-slice-known2 .given)) (start .pre .0) (start .pre .1) (confirmed (c .before .before .before .bytes .ensures) (c .before .before .if1 .left))
-    (refuted (c .before .right-fill .ensures) (c .if2 .taken))
+    let front = c .before .before .before in
+    let start = front .before .before .before .before .before in
+    other-fill _ _ (are-bytes _ (front .before .before .before .shared-slice-known2 .given)) (start .pre .0) (start .pre .1)
+    (confirmed (front .same .ensures) (c .before .before .if1 .left)) (refuted (c .before .right-fill .ensures) (c .if2 .taken))
 
 stated-bits-requires : tie.Need-stated-bits-requires
 stated-bits-requires c κs =
-    let start = c .before .before .before .before .before .before .before .before .before in
+    let front = c .before .before .before .before in
+    let start = front .before .before .before .before .before in
     omega (arith, fills (length (start .args .message .now)), start .pre .1)
 
 returns-3 : tie.Need-returns-3
@@ -43,7 +47,7 @@ returns-3 c =
     let front = bits .before .before .before .before in
     let start = front .before .before .before .before .before in
     right-tail _ _ (are-bytes _ (front .before .before .before .shared-slice-known2 .given)) (start .pre .0) (start .pre .1)
-    (confirmed (front .bytes .ensures) (bits .before .before .before .if1 .left)) (confirmed (bits .before .before .right-fill .ensures) (bits .before .if2 .left))
+    (confirmed (front .same .ensures) (bits .before .before .before .if1 .left)) (confirmed (bits .before .before .right-fill .ensures) (bits .before .if2 .left))
     (c .before .stated-bits .result) (c .before .stated-bits .ensures) (bits .bits .result) (bits .bits .ensures)
 
 pub holds-tail-spec : {M : Type 1} → statement M
@@ -51,7 +55,7 @@ holds-tail-spec =
     tie.close
     (tie.spec
     (λ c. search needs)
-    slice-aggregate-bytes
+    slice-aggregate-same
     (λ c. search needs)
     (λ c. search needs)
     (λ c. search needs)

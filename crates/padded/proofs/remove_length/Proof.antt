@@ -1,7 +1,7 @@
 -- `remove_length` answers the m that the last eight bytes state, and 0 where the bytes are no padded message. Assumes nothing.
 use mathlib.Core.Path.{_∙_}
 use borrow.Author.Needs.{needs}
-use Rattle.same.proofs.Tests.{refuted, confirmed}
+use Rattle.truth.proofs.Tests.{refuted, confirmed}
 use Rattle.padded.proofs.Removed.{no-length, length-of, room, stated-bytes}
 use Rattle.padded.proofs.remove_length.Statement.{statement}
 use Rattle.padded.proofs.remove_length.Tie as tie

@@ -1,7 +1,7 @@
 -- `view_number` refuses what the writer refuses, then a tail that is not the writer's, then a block that is not there. Assumes nothing.
 use mathlib.Core.Path.{sym}
 use borrow.Author.Needs.{needs}
-use Rattle.same.proofs.Tests.{refuted, confirmed}
+use Rattle.truth.proofs.Tests.{refuted, confirmed}
 use Rattle.padded.proofs.Viewed.{view-refused, tail-there, tail-fits, answers-other, answers-past, answers-accepted}
 use Rattle.padded.proofs.view_number.Statement.{statement}
 use Rattle.padded.proofs.view_number.Tie as tie

@@ -4,8 +4,8 @@ use Prim.Native.Nat.{_≤_}
 use borrow.Author.Needs.{needs}
 use borrow.Author.Tests.{not-true, not-false}
 use Rattle.units.proofs.Exact.{few, many}
-use Rattle.padding.specs.Padding.{longest}
-use Rattle.padding.specs.Writing.{wrote}
+use Rattle.units.specs.Units.{longest}
+use Rattle.refusal.specs.Table.{wrote}
 use Rattle.padding.proofs.Tails.{refused-long, refused-size, accepts}
 use Rattle.padding.proofs.tail_answer.Statement.{statement}
 use Rattle.padding.proofs.tail_answer.Tie as tie

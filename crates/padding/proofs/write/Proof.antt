@@ -21,8 +21,8 @@ returns-2 c =
     let answer = test .before .before .tail-answer in
     let message = start .args .message .now in
     let buffer = start .args .buffer .now in (
-      pad .pad .ensures .0 ∙ written-is message buffer (answer .result) (answer .ensures) (test .if1 .left) (copy .bytes .last .0) (copy .bytes .ensures),
-      pad .pad .ensures .1 ∙ written-leaves message buffer (answer .result) (answer .ensures) (test .if1 .left) (copy .bytes .last .0) (copy .bytes .ensures),
+      pad .pad .ensures .0 ∙ written-is message buffer (answer .result) (answer .ensures) (test .if1 .left) (copy .copy .last .0) (copy .copy .ensures),
+      pad .pad .ensures .1 ∙ written-leaves message buffer (answer .result) (answer .ensures) (test .if1 .left) (copy .copy .last .0) (copy .copy .ensures),
     )
 
 pub write-spec : {M : Type 1} → statement M

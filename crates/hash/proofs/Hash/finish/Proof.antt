@@ -21,12 +21,14 @@ abbrev state : tie.After-pad → Hash
 state c = c .before .before .before .before .before .before .before .before .before .args .self
 
 order : (c : tie.After-pad) → inOrder (state c) ≡ true
-order c = sym (c .before .before .before .before .before .before .before .before .in-order .ensures) ∙ not-false _ (c .before .before .before .before .before .before .before .if1 .left)
+order c =
+    let tested = c .before .before .before .before .before .before .before in
+    sym (tested .before .in-order .ensures) ∙ not-false _ (tested .if1 .left)
 
 held : (c : tie.After-pad) → Holds (c .pad .last .0) (c .pad .result .count) (kept (state c) ++ padding (state c .total))
 held c =
     state-holds (state c) (order c) _ _ _
-    (c .before .before .before .bytes .ensures) (c .pad .ensures .0) (c .pad .ensures .1)
+    (c .before .before .before .copy .ensures) (c .pad .ensures .0) (c .pad .ensures .1)
 
 returns : tie.Need-returns
 returns c = c .no-digest .ensures ∙ sym (finish-spoilt _ (sym (c .before .before .in-order .ensures) ∙ not-true _ (c .before .if1 .taken)))
@@ -41,7 +43,7 @@ returns-2 : tie.Need-returns-2
 returns-2 c =
     let at-pad = c .before .before .before in
     c .ended .ensures
-    ∙ ap (λ (s : List ℕ). record { no = accepted; bytes = hashValue (folded (state at-pad .words) s) }) (held at-pad .are)
+    ∙ ap (λ (s : List ℕ). record { number = accepted; bytes = hashValue (folded (state at-pad .words) s) }) (held at-pad .are)
     ∙ sym (finish-folds (state at-pad) (order at-pad))
 
 pub finish-spec : {M : Type 1} → statement M

@@ -10,8 +10,9 @@ use Rattle.hash.proofs.Hash.is_fresh.Tie as tie
 returns : tie.Need-returns
 unfolding isFresh
 returns c =
-    let total = c .before .before .before .before .before .before .args .self .total in
-    ap₂ (λ (p q : Bool). p && eqb total 0 && q) (c .before .before .before .before .same-words .ensures) (c .bytes .ensures)
+    let words = c .before .before .before .before in
+    let total = words .before .before .args .self .total in
+    ap₂ (λ (p q : Bool). p && eqb total 0 && q) (words .same-words .ensures) (c .same .ensures)
 
 pub is-fresh-spec : {M : Type 1} → statement M
 is-fresh-spec =

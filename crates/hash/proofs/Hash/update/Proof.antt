@@ -25,14 +25,14 @@ sub-if2 c = total-le _ (order (c .before))
 returns-2 : tie.Need-returns-2
 returns-2 c = sym (update-passes _ _ (order (c .before .before)) (omega arith))
 
-taken-requires : tie.Need-taken-requires
-taken-requires c κs = (order (c .before .before), omega (arith, total-le _ (order (c .before .before))))
+after-piece-requires : tie.Need-after-piece-requires
+after-piece-requires c κs = (order (c .before .before), omega (arith, total-le _ (order (c .before .before))))
 
 returns-3 : tie.Need-returns-3
 returns-3 c =
     let o = order (c .before .before .before) in
-    ap (λ (h : Hash). record { no = accepted; state = h }) (c .taken .ensures) ∙ sym (update-takes _ _ o (omega (arith, total-le _ o)))
+    ap (λ (h : Hash). record { number = accepted; state = h }) (c .after-piece .ensures) ∙ sym (update-takes _ _ o (omega (arith, total-le _ o)))
 
 pub update-spec : {M : Type 1} → statement M
 update-spec =
-    tie.close (tie.spec (λ c κs. search needs) returns sub-if2 returns-2 taken-requires returns-3)
+    tie.close (tie.spec (λ c κs. search needs) returns sub-if2 returns-2 after-piece-requires returns-3)
