@@ -1,5 +1,5 @@
-pub mod Tests
 pub mod Marks
-pub mod Numbers
+pub mod Places
 pub mod Digests
-pub mod Lines
+pub mod Whole
+pub mod Proved

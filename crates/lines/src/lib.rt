@@ -1,20 +1,26 @@
-// The fields and lines of a rank sheet, read by place through the lent text.
+// The fields and lines of a rank sheet, read by place through the lent text. Each step goes on where the step before it stopped, and
+// where that one had a fault, it answers that fault: so the first fault of a line is the line's.
 ghost use mathlib.Core.Path.{_≡_};
 ghost use Rattle.hex.specs.Digits.{digits};
-ghost use Rattle.lines.specs.Reading.{goodField, fieldFault, hasAt, markAt, wordAt, isFigure, goesOn, numberAt, fieldAt, digestFault, digitAt, digestAt, lineFault, noteLine, headerLine};
+ghost use Rattle.lines.specs.Reading.{goodStop, fault, isGood, hasAt, markAt, wordAt, markAfter, wordAfter};
+ghost use Rattle.lines.specs.Fields.{goodField, fieldFault, fieldAt, fieldAfter, digestFault, digitAt, digestAt, digestAfter};
+ghost use Rattle.lines.specs.Lines.{lineFault, noteLine, headerLine};
 use rules::Record;
 
-// What a step read, and where it stopped: the next place where all was well, else the place at which it wanted something else.
-pub struct Field {
+// Where a step stopped, and what it wanted there: nothing more, and the next place; or the place of its fault.
+pub struct Stop {
     pub wanted: u8,
     pub at: usize,
+}
+
+pub struct Field {
+    pub stop: Stop,
     pub value: u32,
 }
 
 pub struct DigestField {
-    pub wanted: u8,
-    pub at: usize,
-    pub bytes: [u8; 32],
+    pub stop: Stop,
+    pub digest: [u8; 32],
 }
 
 // What a note line says.
@@ -24,8 +30,7 @@ pub struct Entry {
 }
 
 pub struct NoteLine {
-    pub wanted: u8,
-    pub at: usize,
+    pub stop: Stop,
     pub entry: Entry,
 }
 
@@ -44,33 +49,26 @@ const TAB: u8 = 9;
 
 const LF: u8 = 10;
 
-const LARGEST: u32 = 4294967295;
-
-const ZERO: u8 = 48;
-
-const NINE: u8 = 57;
-
-// The edition of a sheet, a figure.
-const EDITION: u8 = 49;
-
-fn good_field(value: u32, next: usize) -> Field
-    ensures { λ r. ⌜ r ≡ goodField value next ⌝ }
+// All was well, and the next place; and a fault's place.
+pub fn good_stop(next: usize) -> Stop
+    ensures { λ r. ⌜ r ≡ goodStop next ⌝ }
 {
-    Field {
+    Stop {
         wanted: NOTHING,
         at: next,
-        value,
     }
 }
 
-fn field_fault(what: u8, place: usize) -> Field
-    ensures { λ r. ⌜ r ≡ fieldFault what place ⌝ }
+fn fault(what: u8, at: usize) -> Stop
+    ensures { λ r. ⌜ r ≡ fault what at ⌝ }
 {
-    Field {
-        wanted: what,
-        at: place,
-        value: 0,
-    }
+    Stop { wanted: what, at }
+}
+
+pub fn is_good(s: Stop) -> bool
+    ensures { λ r. ⌜ r ≡ isGood s ⌝ }
+{
+    s.wanted == NOTHING
 }
 
 // Whether the text has a given byte at a place.
@@ -85,96 +83,97 @@ fn has_at(text: &[u8], at: usize, byte: u8) -> bool
 }
 
 // One given byte.
-fn mark_at(text: &[u8], at: usize, mark: u8, what: u8) -> Field
+fn mark_at(text: &[u8], at: usize, mark: u8, what: u8) -> Stop
     ensures { λ r. ⌜ r ≡ markAt (now (text .entry)) at mark what ⌝ }
 {
     if has_at(text, at, mark) {
-        good_field(0, at + 1)
+        good_stop(at + 1)
     } else {
-        field_fault(what, at)
+        fault(what, at)
+    }
+}
+
+pub fn mark_after(text: &[u8], before: Stop, mark: u8, what: u8) -> Stop
+    ensures { λ r. ⌜ r ≡ markAfter (now (text .entry)) before mark what ⌝ }
+{
+    if is_good(before) {
+        mark_at(text, before.at, mark, what)
+    } else {
+        before
     }
 }
 
 // Given bytes, one after the other.
-fn word_at(text: &[u8], at: usize, letters: &[u8], what: u8) -> Field
+fn word_at(text: &[u8], at: usize, letters: &[u8], what: u8) -> Stop
     ensures { λ r. ⌜ r ≡ wordAt (now (text .entry)) at (now (letters .entry)) what ⌝ }
 {
-    let mut place = at;
+    let mut next = at;
     let mut i = 0;
     while i < letters.len() {
-        if !has_at(text, place, letters[i]) {
-            return field_fault(what, place);
+        if !has_at(text, next, letters[i]) {
+            return fault(what, next);
         }
-        place += 1;
+        next += 1;
         i += 1;
     }
-    good_field(0, place)
+    good_stop(next)
 }
 
-fn is_figure(byte: u8) -> bool
-    ensures { λ r. ⌜ r ≡ isFigure byte ⌝ }
+pub fn word_after(text: &[u8], before: Stop, letters: &[u8], what: u8) -> Stop
+    ensures { λ r. ⌜ r ≡ wordAfter (now (text .entry)) before (now (letters .entry)) what ⌝ }
 {
-    ZERO <= byte && byte <= NINE
+    if is_good(before) {
+        word_at(text, before.at, letters, what)
+    } else {
+        before
+    }
 }
 
-// Whether a number goes on with a byte: not where it is 0, and not where it would be too large.
-fn goes_on(value: u32, byte: u8) -> bool
-    ensures { λ r. ⌜ r ≡ goesOn value byte ⌝ }
+fn good_field(value: u32, next: usize) -> Field
+    ensures { λ r. ⌜ r ≡ goodField value next ⌝ }
 {
-    if !is_figure(byte) {
-        return false;
-    }
-    let more = value as u64 * 10 + (byte - ZERO) as u64;
-    1 <= value && more <= LARGEST as u64
+    let stop = good_stop(next);
+    Field { stop, value }
 }
 
-// The number that begins at a place.
-fn number_at(text: &[u8], at: usize) -> Field
-    ensures { λ r. ⌜ r ≡ numberAt (now (text .entry)) at ⌝ }
+fn field_fault(stop: Stop) -> Field
+    ensures { λ r. ⌜ r ≡ fieldFault stop ⌝ }
 {
-    if text.len() <= at {
-        return field_fault(NUMBER, at);
-    }
-    let first = text[at];
-    if !is_figure(first) {
-        return field_fault(NUMBER, at);
-    }
-    let mut value = (first - ZERO) as u32;
-    let mut place = at + 1;
-    while place < text.len() {
-        let byte = text[place];
-        if !goes_on(value, byte) {
-            return good_field(value, place);
-        }
-        value = value * 10 + (byte - ZERO) as u32;
-        place += 1;
-    }
-    good_field(value, place)
+    Field { stop, value: 0 }
 }
 
 // A number and the byte that ends its field.
-pub fn field_at(text: &[u8], at: usize, ending: u8) -> Field
+fn field_at(text: &[u8], at: usize, ending: u8) -> Field
     ensures { λ r. ⌜ r ≡ fieldAt (now (text .entry)) at ending ⌝ }
 {
-    let n = number_at(text, at);
-    if n.wanted != NOTHING {
-        return n;
+    let n = decimal::read(text, at);
+    let end = n.at;
+    if !n.found {
+        return field_fault(fault(NUMBER, end));
     }
-    let place = n.at;
-    if has_at(text, place, ending) {
-        good_field(n.value, place + 1)
+    if has_at(text, end, ending) {
+        good_field(n.value, end + 1)
     } else {
-        field_fault(SEPARATOR, place)
+        field_fault(fault(SEPARATOR, end))
     }
 }
 
-fn digest_fault(place: usize) -> DigestField
-    ensures { λ r. ⌜ r ≡ digestFault place ⌝ }
+pub fn field_after(text: &[u8], before: Stop, ending: u8) -> Field
+    ensures { λ r. ⌜ r ≡ fieldAfter (now (text .entry)) before ending ⌝ }
+{
+    if is_good(before) {
+        field_at(text, before.at, ending)
+    } else {
+        field_fault(before)
+    }
+}
+
+fn digest_fault(stop: Stop) -> DigestField
+    ensures { λ r. ⌜ r ≡ digestFault stop ⌝ }
 {
     DigestField {
-        wanted: DIGIT,
-        at: place,
-        bytes: [0; 32],
+        stop,
+        digest: [0; 32],
     }
 }
 
@@ -191,40 +190,46 @@ fn digit_at(table: &[u8; 256], text: &[u8], at: usize) -> u8
 }
 
 // The 64 digits that begin at a place. The table is laid out once for all of them.
-pub fn digest_at(text: &[u8], at: usize) -> DigestField
+fn digest_at(text: &[u8], at: usize) -> DigestField
     ensures { λ r. ⌜ r ≡ digestAt (now (text .entry)) at ⌝ }
 {
     let table = hex::table();
-    let mut bytes = [0u8; 32];
-    let mut place = at;
+    let mut digest = [0u8; 32];
+    let mut next = at;
     let mut i = 0;
     while i < 32 {
-        let high = digit_at(&table, text, place);
+        let high = digit_at(&table, text, next);
         if 16 <= high {
-            return digest_fault(place);
+            return digest_fault(fault(DIGIT, next));
         }
-        let low = digit_at(&table, text, place + 1);
+        let low = digit_at(&table, text, next + 1);
         if 16 <= low {
-            return digest_fault(place + 1);
+            return digest_fault(fault(DIGIT, next + 1));
         }
-        bytes[i] = high * 16 + low;
-        place += 2;
+        digest[i] = high * 16 + low;
+        next += 2;
         i += 1;
     }
-    DigestField {
-        wanted: NOTHING,
-        at: place,
-        bytes,
+    let stop = good_stop(next);
+    DigestField { stop, digest }
+}
+
+pub fn digest_after(text: &[u8], before: Stop) -> DigestField
+    ensures { λ r. ⌜ r ≡ digestAfter (now (text .entry)) before ⌝ }
+{
+    if is_good(before) {
+        digest_at(text, before.at)
+    } else {
+        digest_fault(before)
     }
 }
 
-fn line_fault(what: u8, place: usize) -> NoteLine
-    ensures { λ r. ⌜ r ≡ lineFault what place ⌝ }
+fn line_fault(stop: Stop) -> NoteLine
+    ensures { λ r. ⌜ r ≡ lineFault stop ⌝ }
 {
     let sample = rules::zero_record();
     NoteLine {
-        wanted: what,
-        at: place,
+        stop,
         entry: Entry { note: 0, sample },
     }
 }
@@ -233,40 +238,24 @@ fn line_fault(what: u8, place: usize) -> NoteLine
 pub fn note_line(text: &[u8], at: usize) -> NoteLine
     ensures { λ r. ⌜ r ≡ noteLine (now (text .entry)) at ⌝ }
 {
-    let note = field_at(text, at, TAB);
-    if note.wanted != NOTHING {
-        return line_fault(note.wanted, note.at);
+    let note = field_after(text, good_stop(at), TAB);
+    let length = field_after(text, note.stop, TAB);
+    let start = field_after(text, length.stop, TAB);
+    let end = field_after(text, start.stop, TAB);
+    let digest = digest_after(text, end.stop);
+    let close = mark_after(text, digest.stop, LF, SEPARATOR);
+    if !is_good(close) {
+        return line_fault(close);
     }
-    let length = field_at(text, note.at, TAB);
-    if length.wanted != NOTHING {
-        return line_fault(length.wanted, length.at);
-    }
-    let start = field_at(text, length.at, TAB);
-    if start.wanted != NOTHING {
-        return line_fault(start.wanted, start.at);
-    }
-    let end = field_at(text, start.at, TAB);
-    if end.wanted != NOTHING {
-        return line_fault(end.wanted, end.at);
-    }
-    let digest = digest_at(text, end.at);
-    if digest.wanted != NOTHING {
-        return line_fault(digest.wanted, digest.at);
-    }
-    let close = mark_at(text, digest.at, LF, SEPARATOR);
-    if close.wanted != NOTHING {
-        return line_fault(close.wanted, close.at);
-    }
-    let bytes = digest.bytes;
+    let bytes = digest.digest;
     let sample = Record {
         length: length.value,
-        start: start.value,
-        end: end.value,
+        loop_start: start.value,
+        loop_end: end.value,
         digest: bytes,
     };
     NoteLine {
-        wanted: NOTHING,
-        at: close.at,
+        stop: close,
         entry: Entry {
             note: note.value,
             sample,
@@ -274,25 +263,13 @@ pub fn note_line(text: &[u8], at: usize) -> NoteLine
     }
 }
 
-// The header: RANK, the edition, and the number of notes.
-pub fn header_line(text: &[u8]) -> Field
-    ensures { λ r. ⌜ r ≡ headerLine (now (text .entry)) ⌝ }
+// The header at a place: RANK, the edition, which is a figure, and the number of notes.
+pub fn header_line(text: &[u8], at: usize, edition: u8) -> Field
+    ensures { λ r. ⌜ r ≡ headerLine (now (text .entry)) at edition ⌝ }
 {
-    let rank = word_at(text, 0, b"RANK", WORD);
-    if rank.wanted != NOTHING {
-        return rank;
-    }
-    let first = mark_at(text, rank.at, TAB, SEPARATOR);
-    if first.wanted != NOTHING {
-        return first;
-    }
-    let edition = mark_at(text, first.at, EDITION, WORD);
-    if edition.wanted != NOTHING {
-        return edition;
-    }
-    let second = mark_at(text, edition.at, TAB, SEPARATOR);
-    if second.wanted != NOTHING {
-        return second;
-    }
-    field_at(text, second.at, LF)
+    let rank = word_after(text, good_stop(at), b"RANK", WORD);
+    let first = mark_after(text, rank, TAB, SEPARATOR);
+    let figure = mark_after(text, first, edition, WORD);
+    let second = mark_after(text, figure, TAB, SEPARATOR);
+    field_after(text, second, LF)
 }

@@ -6,11 +6,13 @@ use mathlib.Core.Bool.{Bool, true, _&&_}
 use native.Mathlib.Omega.{arith}
 use borrow.Author.Tests.{leb-true, ltb-true, eqb-true, le-leb, lt-ltb, eq-eqb}
 use lib.Dec.{leb, ltb, eqb}
-use Rattle.same.proofs.Tests.{first, second, both}
+use Rattle.truth.proofs.Tests.{first, second, both}
 use Rattle.units.specs.Units.{framesOf}
 use Rattle.units.specs.declared.InFrames.{InFrames}
 use Rattle.units.proofs.Exact.{frames-are}
-use Rattle.rules.specs.Rules.{countRule, isNote, noteRule, lengthRule, loopRule}
+use Rattle.rules.specs.Rules.{countRule, isNote, noteRule, lengthRule, loopRule, obeys}
+use Rattle.rules.specs.Promises.{Obeyed}
+use Rattle.rules.specs.declared.Record.{Record}
 
 -- the frames of the even part of a length: half of it
 pub whole-frames : (b : ℕ) (f : InFrames) → f ≡ framesOf (record { 0 = b - b % 2 }) → f .frames .0 ≡ b / 2
@@ -48,3 +50,11 @@ length-rule-is bytes =
 pub loop-rule-is : (bytes start end : ℕ) → (loopRule bytes start end ≡ true) ↔ ((start < end) × (end ≤ bytes / 2))
 unfolding loopRule
 loop-rule-is bytes start end = both-is _ _ (ltb-true start end, lt-ltb start end) (leb-true end _, le-leb end _)
+
+pub obeys-is : (r : Record) → (obeys r ≡ true) ↔ Obeyed r
+unfolding obeys
+obeys-is r =
+    let rules = both-is _ _ (length-rule-is (r .length)) (loop-rule-is (r .length) (r .«loop_start») (r .«loop_end»)) in (
+      λ h. let (size, loop) = rules .0 h in record { even = size .0; at-least = size .1; at-most = size .2; rises = loop .0; within = loop .1 },
+      λ o. rules .1 ((o .even, o .at-least, o .at-most), (o .rises, o .within)),
+    )

@@ -1,9 +1,19 @@
--- What the rules' tests tell, both ways. All of it is proved in proofs/Kept.antt.
+-- What the rules' tests tell, both ways. All of it is proved in proofs/Proved.antt.
 use Prim.Native.Nat.{ℕ, _/_, _%_, _≤_, _<_}
 use mathlib.Core.Path.{_≡_}
 use mathlib.Core.Logic.{_↔_}
 use mathlib.Core.Bool.{true}
-use Rattle.rules.specs.Rules.{countRule, isNote, noteRule, lengthRule, loopRule}
+use lib.ListN.{replicate}
+use Rattle.rules.specs.Rules.{countRule, isNote, noteRule, lengthRule, loopRule, goodLength, goodLoop, obeys, zeroRecord}
+use Rattle.rules.specs.declared.Record.{Record}
+
+-- a record that "obeys rules 3 and 4", in numbers: "Length is even, 2 to 4294967294. The loop obeys start < end <= length/2."
+pub record Obeyed (r : Record) : Type 0 where
+  pub even : r .length % 2 ≡ 0
+  pub at-least : 2 ≤ r .length
+  pub at-most : r .length ≤ 4294967294
+  pub rises : r .«loop_start» < r .«loop_end»
+  pub within : r .«loop_end» ≤ r .length / 2
 
 pub record Promises : Type 0 where
   -- "the number of notes n, 1..32"
@@ -15,3 +25,10 @@ pub record Promises : Type 0 where
   pub lengths : (bytes : ℕ) → (lengthRule bytes ≡ true) ↔ ((bytes % 2 ≡ 0) × (2 ≤ bytes) × (bytes ≤ 4294967294))
   -- "The loop obeys start < end <= length/2"
   pub loops : (bytes start end : ℕ) → (loopRule bytes start end ≡ true) ↔ ((start < end) × (end ≤ bytes / 2))
+  -- a record's length, and its loop
+  pub good-length : (r : Record) → goodLength r ≡ lengthRule (r .length)
+  pub good-loop : (r : Record) → goodLoop r ≡ loopRule (r .length) (r .«loop_start») (r .«loop_end»)
+  -- a stored slot's record "obeys rules 3 and 4"
+  pub obeyed : (r : Record) → (obeys r ≡ true) ↔ Obeyed r
+  -- "record zero"
+  pub zero : zeroRecord ≡ record { length = 0; «loop_start» = 0; «loop_end» = 0; digest = replicate 32 0 }

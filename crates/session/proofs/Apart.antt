@@ -1,29 +1,18 @@
 -- Operations on different notes. Assumes nothing.
 use Prim.Native.Nat.{ℕ, _≤_}
-use mathlib.Core.Path.{_≡_, refl, sym, ap, _∙_}
+use mathlib.Core.Path.{_≡_, refl, sym, _∙_}
 use mathlib.Core.Bool.{Bool, true, false}
-use native.Mathlib.Omega.{arith}
-use lib.Seq.{getD-set-other, set-comm}
 use Rattle.rules.specs.Rules.{isNote}
 use Rattle.rules.proofs.Rules.{is-note-is}
-use Rattle.slots.specs.Slots.{emptySlot}
 use Rattle.slots.specs.Delivery.{isListed}
-use Rattle.session.specs.Deliver.{placeOf, slotOf, onNote}
+use Rattle.session.specs.Sessions.{slotOf}
+use Rattle.session.specs.Operations.{onNote}
 use Rattle.session.specs.Promises.{Apart}
 use Rattle.slots.specs.declared.Slot.{Slot}
 use Rattle.session.specs.declared.Session.{Session}
 use Rattle.slots.specs.declared.Step.{Step}
 use Rattle.slots.proofs.Listed.{listed-note, no-note}
-use Rattle.session.proofs.Places.{place-of-note, on-listed, on-unlisted}
-
--- different notes have different places
-pub places-differ : (m n : ℕ) → (m ≡ n → ⊥) → isNote m ≡ true → isNote n ≡ true → placeOf m ≡ placeOf n → ⊥
-places-differ m n ne p q e =
-    let range = is-note-is m .0 p in
-    let range′ = is-note-is n .0 q in
-    let place = place-of-note m p in
-    let place′ = place-of-note n q in
-    ne (omega arith)
+use Rattle.session.proofs.Putting.{indices-differ, put-other, put-both, on-listed, on-unlisted}
 
 -- an operation answers by its own slot
 pub own-slot : (s t : Session) (note : ℕ) (f : Slot → Step) → slotOf s note ≡ slotOf t note → onNote s note f .answer ≡ onNote t note f .answer
@@ -33,9 +22,7 @@ own-slot s t note f e = rw e
 module _ (s : Session) (m n : ℕ) (f : Slot → Step) (ne : m ≡ n → ⊥) where
   -- a slot of another note is as it was, and as listed as it was
   other-slot : (l : Bool) → isListed (slotOf s m) m ≡ l → isNote n ≡ true → slotOf (onNote s m f .session) n ≡ slotOf s n
-  unfolding slotOf
-  other-slot true h k =
-      rw (on-listed s m f h) (getD-set-other (s .slots) (placeOf m) (placeOf n) _ emptySlot (places-differ n m (λ e. ne (sym e)) k (listed-note (slotOf s m) m h)))
+  other-slot true h k = rw (on-listed s m f h) (put-other s m n _ (indices-differ n m (λ e. ne (sym e)) k (listed-note (slotOf s m) m h)))
   other-slot false h k = rw (on-unlisted s m f h)
 
   pub other-kept : isNote n ≡ true → slotOf (onNote s m f .session) n ≡ slotOf s n
@@ -72,7 +59,7 @@ module _ (s : Session) (m n : ℕ) (f g : Slot → Step) (ne : m ≡ n → ⊥) 
         on-listed s m f p,
         on-listed s n g q,
       )
-      (ap (λ l. record { slots = l }) (set-comm (s .slots) (placeOf m) (placeOf n) _ _ (places-differ m n ne is is′)))
+      (put-both s m n _ _ (indices-differ m n ne is is′))
 
   pub are-apart : Apart s m n f g
   are-apart = record { answers = answer-kept _ refl; sessions = commute _ _ refl refl }

@@ -1,6 +1,6 @@
 pub mod Lists
-pub mod Places
+pub mod Putting
 pub mod Listed
 pub mod Rows
 pub mod Apart
-pub mod Kept
+pub mod Proved

@@ -6,12 +6,12 @@ use mathlib.Core.Bool.{Bool, true, false}
 use native.Mathlib.Omega.{arith}
 use borrow.Author.Tests.{leb-true, leb-false, eqb-true, eqb-false}
 use lib.Dec.{leb, eqb}
-use Rattle.same.proofs.Tests.{never, not-both}
+use Rattle.truth.proofs.Tests.{never, not-both}
 use Rattle.rules.proofs.Rules.{is-note-is}
-use Rattle.slots.specs.Slots.{absent}
+use Rattle.slots.specs.Slots.{none}
 use Rattle.slots.specs.Delivery.{isListed}
 use Rattle.slots.proofs.Listed.{listed-note, listed-status, is-listed}
-use Rattle.session.specs.Deliver.{slotOf}
+use Rattle.session.specs.Sessions.{slotOf}
 use Rattle.session.specs.Promises.{Listed, Unlisted}
 use Rattle.session.specs.declared.Session.{Session}
 
@@ -31,7 +31,7 @@ module _ (s : Session) (note : ℕ) where
   never-both (low, high, status) (inr (inl e)) = omega arith
   never-both (low, high, status) (inr (inr e)) = status e
 
-  unlisted-then : (a b c : Bool) → leb 1 note ≡ a → leb note 32 ≡ b → eqb (slotOf s note .status) absent ≡ c → isListed (slotOf s note) note ≡ false
+  unlisted-then : (a b c : Bool) → leb 1 note ≡ a → leb note 32 ≡ b → eqb (slotOf s note .status) none ≡ c → isListed (slotOf s note) note ≡ false
       → Unlisted s note
   unlisted-then false b c p q r h = let low = leb-false 1 note p in inl (omega arith)
   unlisted-then true false c p q r h = inr (inl (leb-false _ _ q))

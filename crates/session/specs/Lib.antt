@@ -1,2 +1,3 @@
-pub mod Deliver
+pub mod Sessions
+pub mod Operations
 pub mod Promises

@@ -1,77 +1,145 @@
--- What is promised from ANY stored session. All of it is proved in proofs/Kept.antt.
+-- What is promised from ANY stored session. All of it is proved in proofs/Proved.antt.
 use Prim.Native.Nat.{ℕ, _+_, _-_, _≤_, _<_}
 use mathlib.Core.Path.{_≡_}
 use mathlib.Core.Logic.{_↔_, _⊎_}
 use mathlib.Core.List.{List, []}
 use mathlib.Core.Bool.{true, false}
-use lib.ListN.{length, getD, set}
-use Rattle.refusal.specs.Table.{accepted, unlisted, slot-not-in-order, decided, past-length}
-use Rattle.slots.specs.Slots.{absent, waiting, slotInOrder, bytesTaken, emptySlot}
-use Rattle.slots.specs.Delivery.{bareRefusal, asItStands, withPiece}
+use lib.ListN.{length, getD}
+use Rattle.refusal.specs.Table.{accepted, unlisted, slotNotInOrder, decided, pastLength}
+use Rattle.slots.specs.Slots.{waiting, slotInOrder, emptySlot}
+use Rattle.slots.specs.Delivery.{withPiece, deliverTo, deliverAt, askAt}
 use Rattle.slots.specs.Promises.{Decided}
-use Rattle.session.specs.Deliver.{slotOf, onNote, deliver, ask}
 use Rattle.slots.specs.declared.Slot.{Slot}
-use Rattle.session.specs.declared.Session.{Session}
 use Rattle.slots.specs.declared.Answer.{Answer}
 use Rattle.slots.specs.declared.Step.{Step}
+use Rattle.session.specs.Sessions.{emptySession, slotIndex, slotOf, putSlot}
+use Rattle.session.specs.Operations.{onNote, deliver, ask, delivery, noteOf, perform}
+use Rattle.session.specs.declared.Session.{Session}
 use Rattle.session.specs.declared.Delivered.{Delivered}
 
--- "note 0, above 32, or unlisted", and the others
-abbrev pub Unlisted : Session → ℕ → Type 0
-Unlisted s note = (note ≡ 0) ⊎ (32 < note) ⊎ (slotOf s note .status ≡ absent)
+-- "note 0, above 32, or unlisted"; "A slot is unlisted exactly when its status is 0". And the others
+abbrev pub Unlisted : (s : Session) (note : ℕ) → Type 0
+Unlisted s note = (note ≡ 0) ⊎ (32 < note) ⊎ (slotOf s note .status ≡ 0)
 
-abbrev pub Listed : Session → ℕ → Type 0
-Listed s note = (1 ≤ note) × (note ≤ 32) × (slotOf s note .status ≡ absent → ⊥)
+abbrev pub Listed : (s : Session) (note : ℕ) → Type 0
+Listed s note = (1 ≤ note) × (note ≤ 32) × (slotOf s note .status ≡ 0 → ⊥)
+
+-- a listed slot in order that waits, and one that is decided
+pub record Waits (s : Session) (note : ℕ) : Type 0 where
+  pub listed : Listed s note
+  pub in-order : slotInOrder (slotOf s note) ≡ true
+  pub waiting : slotOf s note .status ≡ 1
+
+pub record IsDecided (s : Session) (note : ℕ) : Type 0 where
+  pub listed : Listed s note
+  pub in-order : slotInOrder (slotOf s note) ≡ true
+  pub decided : Decided (slotOf s note)
 
 -- The rows of the table for a delivery, in its order: when a number is given; what is returned and left.
 pub data Row (s : Session) (note : ℕ) (piece : List ℕ) : Delivered → Type 0 where
   -- 5: "note 0, above 32, or unlisted"; "status 0, taken 0; session same"
-  row5 : Unlisted s note → Row s note piece (record { answer = bareRefusal unlisted; session = s })
+  row5 : Unlisted s note → Row s note piece (record { answer = record { number = unlisted; status = 0; taken = 0 }; session = s })
   -- 6: "slot not in order"; "status 0, taken 0; session same"
-  row6 : Listed s note → slotInOrder (slotOf s note) ≡ false → Row s note piece (record { answer = bareRefusal slot-not-in-order; session = s })
+  row6 :
+      Listed s note → slotInOrder (slotOf s note) ≡ false
+      → Row s note piece (record { answer = record { number = slotNotInOrder; status = 0; taken = 0 }; session = s })
   -- 7: "delivery to a decided note, empty piece too"; "status and taken as they stood; session same"
-  row7 : Listed s note → slotInOrder (slotOf s note) ≡ true → Decided (slotOf s note)
-      → Row s note piece (record { answer = asItStands decided (slotOf s note); session = s })
+  row7 :
+      IsDecided s note
+      → Row s note piece
+      (record { answer = record { number = decided; status = slotOf s note .status; taken = slotOf s note .sample .length }; session = s })
   -- 8: "taken + piece exceeds length"; "as they stood; nothing of the piece taken"
-  row8 : Listed s note → slotInOrder (slotOf s note) ≡ true → slotOf s note .status ≡ waiting
-      → slotOf s note .sample .length < bytesTaken (slotOf s note) + length piece
-      → Row s note piece (record { answer = asItStands past-length (slotOf s note); session = s })
+  row8 :
+      Waits s note → slotOf s note .sample .length < slotOf s note .state .total + length piece
+      → Row s note piece (record { answer = record { number = pastLength; status = 1; taken = slotOf s note .state .total }; session = s })
   -- 0: "an accepted call": the piece is taken, and the slot answers as it then stands
-  row0 : Listed s note → slotInOrder (slotOf s note) ≡ true → slotOf s note .status ≡ waiting
-      → bytesTaken (slotOf s note) + length piece ≤ slotOf s note .sample .length
+  row0 :
+      Waits s note → slotOf s note .state .total + length piece ≤ slotOf s note .sample .length
       → Row s note piece
       (record {
-        answer = asItStands accepted (withPiece (slotOf s note) piece);
-        session = record { slots = set (s .slots) (note - 1) (withPiece (slotOf s note) piece) };
+        answer = record {
+          number = accepted;
+          status = withPiece (slotOf s note) piece .status;
+          taken = slotOf s note .state .total + length piece;
+        };
+        session = putSlot s note (withPiece (slotOf s note) piece);
       })
 
 -- Those for asking, "with refusals 5 and 6 only".
 pub data AskRow (s : Session) (note : ℕ) : Answer → Type 0 where
-  ask5 : Unlisted s note → AskRow s note (bareRefusal unlisted)
-  ask6 : Listed s note → slotInOrder (slotOf s note) ≡ false → AskRow s note (bareRefusal slot-not-in-order)
-  ask0 : Listed s note → slotInOrder (slotOf s note) ≡ true → AskRow s note (asItStands accepted (slotOf s note))
+  ask5 : Unlisted s note → AskRow s note (record { number = unlisted; status = 0; taken = 0 })
+  ask6 : Listed s note → slotInOrder (slotOf s note) ≡ false → AskRow s note (record { number = slotNotInOrder; status = 0; taken = 0 })
+  ask-waiting : Waits s note → AskRow s note (record { number = accepted; status = 1; taken = slotOf s note .state .total })
+  ask-decided :
+      IsDecided s note → AskRow s note (record { number = accepted; status = slotOf s note .status; taken = slotOf s note .sample .length })
 
 -- two operations on different notes, in either order: the same answers, and the same session at the end
 pub record Apart (s : Session) (m n : ℕ) (f g : Slot → Step) : Type 0 where
   pub answers : onNote (onNote s m f .session) n g .answer ≡ onNote s n g .answer
   pub sessions : onNote (onNote s m f .session) n g .session ≡ onNote (onNote s n g .session) m f .session
 
+-- a piece is accepted exactly when its note waits and it does not run past the length: of any delivery
+abbrev pub TakesOf : (delivering : Session → (note : ℕ) (piece : List ℕ) → Delivered) → Type 0
+TakesOf delivering =
+    (s : Session) (note : ℕ) (piece : List ℕ)
+    → (delivering s note piece .answer .number ≡ accepted)
+    ↔ (Waits s note × (slotOf s note .state .total + length piece ≤ slotOf s note .sample .length))
+
+-- bytes taken are those taken before and the piece, decided or not: of any delivery
+abbrev pub CountedOf : (delivering : Session → (note : ℕ) (piece : List ℕ) → Delivered) → Type 0
+CountedOf delivering =
+    (s : Session) (note : ℕ) (piece : List ℕ) → delivering s note piece .answer .number ≡ accepted
+    → delivering s note piece .answer .taken ≡ slotOf s note .state .total + length piece
+
 pub record Promises : Type 0 where
-  -- "32 slots, one a note": the first is note 1's
+  -- "32 slots, one a note": the first is note 1's; a number that is no note has the first slot too, where nothing is done
   pub places : (s : Session) (note : ℕ) → 1 ≤ note → note ≤ 32 → slotOf s note ≡ getD (s .slots) (note - 1) emptySlot
+  pub no-place : (s : Session) (note : ℕ) → (note ≡ 0) ⊎ (32 < note) → slotOf s note ≡ getD (s .slots) 0 emptySlot
+  -- and so counts the index
+  pub index : (note : ℕ) → 1 ≤ note → note ≤ 32 → slotIndex note ≡ note - 1
+  pub no-index : (note : ℕ) → (note ≡ 0) ⊎ (32 < note) → slotIndex note ≡ 0
+  -- a slot that is put is the note's own, every other stays, and what is put back changes nothing
+  pub put-own : (s : Session) (note : ℕ) (slot : Slot) → length (s .slots) ≡ 32 → slotOf (putSlot s note slot) note ≡ slot
+  pub put-other :
+      (s : Session) (m n : ℕ) (slot : Slot) → (slotIndex n ≡ slotIndex m → ⊥) → slotOf (putSlot s m slot) n ≡ slotOf s n
+  pub put-back : (s : Session) (note : ℕ) → putSlot s note (slotOf s note) ≡ s
+  -- "session with no note listed": 32 slots, and no number is listed
+  pub empty-slots : length (emptySession .slots) ≡ 32
+  pub empty-lists : (note : ℕ) → slotOf emptySession note ≡ emptySlot
+  pub empty-asked : (note : ℕ) → ask emptySession note ≡ record { number = unlisted; status = 0; taken = 0 }
   -- "Given exactly when": what a delivery answers and leaves is a row of the table that holds, and no other row holds
   pub table : (s : Session) (note : ℕ) (piece : List ℕ) (d : Delivered) → (d ≡ deliver s note piece) ↔ Row s note piece d
-  pub askTable : (s : Session) (note : ℕ) (a : Answer) → (a ≡ ask s note) ↔ AskRow s note a
+  pub ask-table : (s : Session) (note : ℕ) (a : Answer) → (a ≡ ask s note) ↔ AskRow s note a
   -- a refused delivery leaves the session as it was
-  pub refused : (s : Session) (note : ℕ) (piece : List ℕ) → (deliver s note piece .answer .no ≡ accepted → ⊥) → deliver s note piece .session ≡ s
+  pub refused :
+      (s : Session) (note : ℕ) (piece : List ℕ) → (deliver s note piece .answer .number ≡ accepted → ⊥)
+      → deliver s note piece .session ≡ s
   -- "An empty piece to a waiting note is accepted and changes nothing"
-  pub emptyPiece : (s : Session) (note : ℕ) → Listed s note → slotInOrder (slotOf s note) ≡ true → slotOf s note .status ≡ waiting
-      → deliver s note [] ≡ record { answer = asItStands accepted (slotOf s note); session = s }
-  -- bytes taken are those taken before and the piece, decided or not
-  pub counted : (s : Session) (note : ℕ) (piece : List ℕ) → deliver s note piece .answer .no ≡ accepted
-      → deliver s note piece .answer .taken ≡ bytesTaken (slotOf s note) + length piece
-  -- "A delivery looks at its own slot only", and so does any other operation on one note: the answer goes by that slot, and every other one stays
-  pub ownSlot : (s t : Session) (note : ℕ) (f : Slot → Step) → slotOf s note ≡ slotOf t note → onNote s note f .answer ≡ onNote t note f .answer
-  pub otherSlots : (s : Session) (note m : ℕ) (f : Slot → Step) → (note ≡ m → ⊥) → 1 ≤ m → m ≤ 32 → slotOf (onNote s note f .session) m ≡ slotOf s m
+  pub empty-piece :
+      (s : Session) (note : ℕ) → Waits s note
+      → deliver s note [] ≡ record { answer = record { number = accepted; status = 1; taken = slotOf s note .state .total }; session = s }
+  -- when a piece is accepted, and what is counted then
+  pub takes : TakesOf deliver
+  pub counted : CountedOf deliver
+  -- what is done with one slot, and a number, is what is done with the session
+  pub by-slot :
+      (s : Session) (note : ℕ) (piece : List ℕ)
+      → deliver s note piece
+      ≡ record {
+        answer = deliverAt (slotOf s note) note piece .answer;
+        session = putSlot s note (deliverAt (slotOf s note) note piece .slot);
+      }
+  pub ask-by-slot : (s : Session) (note : ℕ) → ask s note ≡ askAt (slotOf s note) note
+  pub on-note : (s : Session) (note : ℕ) (piece : List ℕ) → deliver s note piece ≡ onNote s note (λ slot. deliverTo slot piece)
+  pub note-of : (note : ℕ) (piece : List ℕ) → noteOf (delivery note piece) ≡ note
+  -- a delivery, as one of the operations on a note
+  pub delivers : (s : Session) (note : ℕ) (piece : List ℕ) → perform s (delivery note piece) ≡ deliver s note piece
+  -- "A delivery looks at its own slot only", and so does any other operation on one note: the answer goes by that slot, and every other
+  -- one stays
+  pub own-slot :
+      (s t : Session) (note : ℕ) (f : Slot → Step) → slotOf s note ≡ slotOf t note
+      → onNote s note f .answer ≡ onNote t note f .answer
+  pub other-slots :
+      (s : Session) (note m : ℕ) (f : Slot → Step) → (note ≡ m → ⊥) → 1 ≤ m → m ≤ 32 → slotOf (onNote s note f .session) m ≡ slotOf s m
   -- so operations on different notes may change places
   pub apart : (s : Session) (m n : ℕ) (f g : Slot → Step) → (m ≡ n → ⊥) → Apart s m n f g

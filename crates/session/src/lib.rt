@@ -1,6 +1,7 @@
 // The loading session: 32 slots, one a note.
 ghost use mathlib.Core.Path.{_≡_};
-ghost use Rattle.session.specs.Deliver.{emptySession, placeOf, deliver, ask};
+ghost use Rattle.session.specs.Sessions.{emptySession, slotIndex};
+ghost use Rattle.session.specs.Operations.{deliver, ask};
 use slots::Answer;
 use slots::Slot;
 
@@ -25,9 +26,9 @@ pub fn empty_session() -> Session
     Session { slots: [slot; 32] }
 }
 
-// Where a note's slot stands, and 0 for a number that is no note.
-pub fn place_of(note: u64) -> usize
-    ensures { λ r. ⌜ r ≡ placeOf note ⌝ }
+// The index of a note's slot, and 0 for a number that is no note.
+pub fn slot_index(note: u64) -> usize
+    ensures { λ r. ⌜ r ≡ slotIndex note ⌝ }
 {
     if rules::is_note(note) {
         (note - 1) as usize
@@ -40,12 +41,12 @@ impl Session {
     pub fn deliver(mut self, note: u64, piece: &[u8]) -> Delivered
         ensures { λ r. ⌜ r ≡ deliver self note (now (piece .entry)) ⌝ }
     {
-        let place = place_of(note);
-        let slot = self.slots[place];
+        let index = slot_index(note);
+        let slot = self.slots[index];
         let step = slots::deliver_at(slot, note, piece);
         let answer = step.answer;
         let after = step.slot;
-        self.slots[place] = after;
+        self.slots[index] = after;
         Delivered {
             answer,
             session: self,
@@ -55,8 +56,8 @@ impl Session {
     pub fn ask(self, note: u64) -> Answer
         ensures { λ r. ⌜ r ≡ ask self note ⌝ }
     {
-        let place = place_of(note);
-        let slot = self.slots[place];
+        let index = slot_index(note);
+        let slot = self.slots[index];
         slots::ask_at(slot, note)
     }
 }

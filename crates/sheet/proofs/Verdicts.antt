@@ -8,11 +8,12 @@ use native.Mathlib.Omega.{arith}
 use borrow.Author.Tests.{leb-true, le-leb, lt-leb, lt-ltb, le-ltb, eq-eqb, ne-eqb}
 use lib.Dec.{leb, ltb, eqb}
 use lib.ListN.{length}
-use Rattle.refusal.specs.Table.{accepted, form, count-or-note, bad-length, bad-loop}
-use Rattle.same.proofs.Tests.{second}
+use Rattle.refusal.specs.Table.{accepted, form, countOrNote, badLength, badLoop}
+use Rattle.truth.proofs.Tests.{second}
 use Rattle.rules.proofs.Rules.{count-rule-is}
-use Rattle.rules.specs.Rules.{countRule, noteRule, lengthRule, loopRule}
-use Rattle.lines.specs.Reading.{nothing, noteLine, headerLine}
+use Rattle.rules.specs.Rules.{countRule, noteRule, goodLength, goodLoop}
+use Rattle.lines.specs.Reading.{isGood}
+use Rattle.lines.specs.Lines.{noteLine, headerLine, edition1}
 use Rattle.sheet.specs.Judging.{headerNumber, entryNumber, noteNumber, allGood, verdictAt, judgedNotes, judged}
 use Rattle.lines.specs.declared.Field.{Field}
 use Rattle.lines.specs.declared.Entry.{Entry}
@@ -20,68 +21,68 @@ use Rattle.lines.specs.declared.NoteLine.{NoteLine}
 
 -- the number of a header
 module _ (h : Field) where
-  pub header-ill : (h .wanted ≡ nothing → ⊥) → headerNumber h ≡ form
+  pub header-ill : isGood (h .stop) ≡ false → headerNumber h ≡ form
   unfolding headerNumber
-  header-ill ill = simp (ne-eqb (h .wanted) nothing ill)
+  header-ill ill = simp ill
 
-  module _ (well : h .wanted ≡ nothing) where
-    pub header-bad : countRule (h .value) ≡ false → headerNumber h ≡ count-or-note
+  module _ (well : isGood (h .stop) ≡ true) where
+    pub header-bad : countRule (h .value) ≡ false → headerNumber h ≡ countOrNote
     unfolding headerNumber
-    header-bad bad = simp (eq-eqb (h .wanted) nothing well, bad)
+    header-bad bad = simp (well, bad)
 
     pub header-good : countRule (h .value) ≡ true → headerNumber h ≡ accepted
     unfolding headerNumber
-    header-good good = simp (eq-eqb (h .wanted) nothing well, good)
+    header-good good = simp (well, good)
 
 -- the number of an entry
 module _ (last : ℕ) (e : Entry) where
-  pub entry-note : noteRule last (e .note) ≡ false → entryNumber last e ≡ count-or-note
+  pub entry-note : noteRule last (e .note) ≡ false → entryNumber last e ≡ countOrNote
   unfolding entryNumber
   entry-note bad = simp bad
 
   module _ (note : noteRule last (e .note) ≡ true) where
-    pub entry-length : lengthRule (e .sample .length) ≡ false → entryNumber last e ≡ bad-length
+    pub entry-length : goodLength (e .sample) ≡ false → entryNumber last e ≡ badLength
     unfolding entryNumber
     entry-length bad = simp (note, bad)
 
-    module _ (bytes : lengthRule (e .sample .length) ≡ true) where
-      pub entry-loop : loopRule (e .sample .length) (e .sample .start) (e .sample .end) ≡ false → entryNumber last e ≡ bad-loop
+    module _ (bytes : goodLength (e .sample) ≡ true) where
+      pub entry-loop : goodLoop (e .sample) ≡ false → entryNumber last e ≡ badLoop
       unfolding entryNumber
       entry-loop bad = simp (note, bytes, bad)
 
-      pub entry-good : loopRule (e .sample .length) (e .sample .start) (e .sample .end) ≡ true → entryNumber last e ≡ accepted
+      pub entry-good : goodLoop (e .sample) ≡ true → entryNumber last e ≡ accepted
       unfolding entryNumber
       entry-good good = simp (note, bytes, good)
 
 -- and of its line
-pub line-ill : (last : ℕ) (l : NoteLine) → (l .wanted ≡ nothing → ⊥) → noteNumber last l ≡ form
+pub line-ill : (last : ℕ) (l : NoteLine) → isGood (l .stop) ≡ false → noteNumber last l ≡ form
 unfolding noteNumber
-line-ill last l ill = simp (ne-eqb (l .wanted) nothing ill)
+line-ill last l ill = simp ill
 
-pub line-well : (last : ℕ) (l : NoteLine) → l .wanted ≡ nothing → noteNumber last l ≡ entryNumber last (l .entry)
+pub line-well : (last : ℕ) (l : NoteLine) → isGood (l .stop) ≡ true → noteNumber last l ≡ entryNumber last (l .entry)
 unfolding noteNumber
-line-well last l well = simp (eq-eqb (l .wanted) nothing well)
+line-well last l well = simp well
 
 -- an accepted header has a count of at most 32
 pub most-notes : (h : Field) (number : ℕ) → number ≡ headerNumber h → number ≡ accepted → h .value ≤ 32
 unfolding headerNumber
-most-notes h number e good = go (eqb (h .wanted) nothing) (countRule (h .value)) refl refl
+most-notes h number e good = go (isGood (h .stop)) (countRule (h .value)) refl refl
   where
-    go : (p q : Bool) → eqb (h .wanted) nothing ≡ p → countRule (h .value) ≡ q → h .value ≤ 32
+    go : (p q : Bool) → isGood (h .stop) ≡ p → countRule (h .value) ≡ q → h .value ≤ 32
     go p true ep eq = count-rule-is (h .value) .0 eq .1
     go true false ep eq = let no : number ≡ 2 = e ∙ simp (ep, eq) in absurd (omega arith)
     go false false ep eq = let no : number ≡ 1 = e ∙ simp (ep, eq) in absurd (omega arith)
 
 -- line 1 decides, or the note lines do
-pub header-decides : (text : List ℕ) (h : Field) (number : ℕ) → h ≡ headerLine text → number ≡ headerNumber h → (number ≡ accepted → ⊥)
-    → verdictAt number 1 ≡ judged text
+pub header-decides : (text : List ℕ) (from : ℕ) (h : Field) (number : ℕ) → h ≡ headerLine text from edition1 → number ≡ headerNumber h → (number ≡ accepted → ⊥)
+    → verdictAt number 1 ≡ judged text from
 unfolding judged
-header-decides text h number eh en bad = rw (← eh, ← en) (simp (ne-eqb number accepted bad))
+header-decides text from h number eh en bad = rw (← eh, ← en) (simp (ne-eqb number accepted bad))
 
-pub notes-decide : (text : List ℕ) (h : Field) (number : ℕ) → h ≡ headerLine text → number ≡ headerNumber h → number ≡ accepted
-    → judged text ≡ judgedNotes (h .value) text (h .at) 2 0
+pub notes-decide : (text : List ℕ) (from : ℕ) (h : Field) (number : ℕ) → h ≡ headerLine text from edition1 → number ≡ headerNumber h → number ≡ accepted
+    → judged text from ≡ judgedNotes (h .value) text (h .stop .at) 2 0
 unfolding judged
-notes-decide text h number eh en good = rw (← eh, ← en) (simp (eq-eqb number accepted good))
+notes-decide text from h number eh en good = rw (← eh, ← en) (simp (eq-eqb number accepted good))
 
 -- a note line decides, or those after it do
 module _ (text : List ℕ) (notes at line last : ℕ) (l : NoteLine) (el : l ≡ noteLine text at) (number : ℕ) (en : number ≡ noteNumber last l) where
@@ -89,7 +90,7 @@ module _ (text : List ℕ) (notes at line last : ℕ) (l : NoteLine) (el : l ≡
   unfolding judgedNotes
   this-decides bad = rw (← el, ← en) (simp (ne-eqb number accepted bad))
 
-  pub rest-decides : number ≡ accepted → judgedNotes (suc notes) text at line last ≡ judgedNotes notes text (l .at) (line + 1) (l .entry .note)
+  pub rest-decides : number ≡ accepted → judgedNotes (suc notes) text at line last ≡ judgedNotes notes text (l .stop .at) (line + 1) (l .entry .note)
   unfolding judgedNotes
   rest-decides good = rw (← el, ← en) (simp (eq-eqb number accepted good))
 
@@ -103,9 +104,9 @@ unfolding judgedNotes allGood verdictAt
 nothing-follows text at line last h = simp (le-ltb at (length text) h)
 
 -- the same in the loop, which has judged i note lines of so many
-pub none-yet : (text : List ℕ) (h : Field) (number : ℕ) → h ≡ headerLine text → number ≡ headerNumber h → number ≡ accepted
-    → judged text ≡ judgedNotes (h .value - 0) text (h .at) (0 + 2) 0
-none-yet text h number eh en good = rw (sub-zero (h .value)) (notes-decide text h number eh en good)
+pub none-yet : (text : List ℕ) (from : ℕ) (h : Field) (number : ℕ) → h ≡ headerLine text from edition1 → number ≡ headerNumber h → number ≡ accepted
+    → judged text from ≡ judgedNotes (h .value - 0) text (h .stop .at) (0 + 2) 0
+none-yet text from h number eh en good = rw (sub-zero (h .value)) (notes-decide text from h number eh en good)
 
 module _ (text : List ℕ) (count i at last : ℕ) (more : i < count) (l : NoteLine) (el : l ≡ noteLine text at) (number : ℕ) (en : number ≡ noteNumber last l) where
   left : count - i ≡ suc (count - (i + 1))
@@ -115,7 +116,7 @@ module _ (text : List ℕ) (count i at last : ℕ) (more : i < count) (l : NoteL
   this-of-many bad = rw left (this-decides text _ at (i + 2) last l el number en bad)
 
   pub rest-of-many : number ≡ accepted
-      → judgedNotes (count - i) text at (i + 2) last ≡ judgedNotes (count - (i + 1)) text (l .at) (i + 1 + 2) (l .entry .note)
+      → judgedNotes (count - i) text at (i + 2) last ≡ judgedNotes (count - (i + 1)) text (l .stop .at) (i + 1 + 2) (l .entry .note)
   rest-of-many good =
       let next : i + 2 + 1 ≡ i + 1 + 2 = omega arith in
       rw (left, ← next) (rest-decides text _ at (i + 2) last l el number en good)

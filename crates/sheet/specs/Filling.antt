@@ -5,20 +5,19 @@ use mathlib.Core.Bool.{cond}
 use lib.Dec.{eqb}
 use Rattle.refusal.specs.Table.{accepted}
 use Rattle.slots.specs.Slots.{waitingSlot}
-use Rattle.session.specs.Deliver.{placeOf}
-use Rattle.lines.specs.Reading.{noteLine, headerLine}
+use Rattle.session.specs.Sessions.{slotIndex}
+use Rattle.lines.specs.Lines.{noteLine}
+use Rattle.lines.specs.declared.Field.{Field}
 use Rattle.sheet.specs.declared.Verdict.{Verdict}
 use Rattle.sheet.specs.declared.Listing.{Listing}
 use Rattle.sheet.specs.declared.Start.{Start}
 
--- the line at a place: its note's slot, "waiting, with its own line's record and a fresh state", and where that stands
-unfoldable pub listing : List ℕ → ℕ → Listing
+-- the line at a place: its note's slot, "waiting, with its own line's record and a fresh state", and which that is
+unfoldable pub listing : (text : List ℕ) (at : ℕ) → Listing
 listing text at =
     let l = noteLine text at in
-    record { place = placeOf (l .entry .note); slot = waitingSlot (l .entry .sample); next = l .at }
+    record { index = slotIndex (l .entry .note); slot = waitingSlot (l .entry .sample); next = l .stop .at }
 
--- where the note lines begin, and how many there are: none of a refused sheet
-unfoldable pub start : List ℕ → Verdict → Start
-start text v =
-    let h = headerLine text in
-    record { at = h .at; notes = cond (eqb (v .no) accepted) (h .value) 0 }
+-- where the note lines begin behind a header, and how many there are: none of a refused sheet
+unfoldable pub start : (header : Field) → Verdict → Start
+start header v = record { at = header .stop .at; notes = cond (eqb (v .number) accepted) (header .value) 0 }

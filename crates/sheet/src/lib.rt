@@ -1,12 +1,13 @@
 // The rank sheet, judged line by line, and the session that it gives.
 ghost use mathlib.Core.Path.{_≡_};
-ghost use Rattle.sheet.specs.Judging.{headerNumber, entryNumber, noteNumber, verdictAt, judged, entriesAt, withNotes, sheetOf};
+ghost use Rattle.sheet.specs.Judging.{headerAt, headerNumber, entryNumber, noteNumber};
+ghost use Rattle.sheet.specs.Judging.{verdictAt, judged, entriesAt, withNotes, sheetOf};
 ghost use Rattle.sheet.specs.Filling.{start, listing};
-ghost use Rattle.session.specs.Deliver.{emptySession};
+ghost use Rattle.session.specs.Sessions.{emptySession};
 use lines::Entry;
 use lines::Field;
-use lines::NOTHING;
 use lines::NoteLine;
+use lines::is_good;
 use refusal::ACCEPTED;
 use refusal::BAD_LENGTH;
 use refusal::BAD_LOOP;
@@ -15,18 +16,20 @@ use refusal::FORM;
 use session::Session;
 use slots::Slot;
 
+// The edition of these sheets: the figure 1.
+const EDITION: u8 = 49;
+
 // Whether a line is bad: its refusal number and its line number, from 1; both 0 where none is.
 #[repr(C)]
 pub struct Verdict {
-    pub no: u8,
+    pub number: u8,
     pub line: u32,
 }
 
 // What reading a sheet answers.
 #[repr(C)]
 pub struct Sheet {
-    pub no: u8,
-    pub line: u32,
+    pub verdict: Verdict,
     pub session: Session,
 }
 
@@ -36,18 +39,25 @@ pub struct Start {
     pub notes: u32,
 }
 
-// What a note line puts into a session: the slot, its place, and where the next line begins.
+// What a note line puts into a session: the slot, its index, and where the next line begins.
 pub struct Listing {
-    pub place: usize,
+    pub index: usize,
     pub slot: Slot,
     pub next: usize,
+}
+
+// Line 1 of the sheet that begins at a place.
+pub fn header_at(text: &[u8], at: usize) -> Field
+    ensures { λ r. ⌜ r ≡ headerAt (now (text .entry)) at ⌝ }
+{
+    lines::header_line(text, at, EDITION)
 }
 
 // Line 1's refusal number: form, then count.
 pub fn header_number(h: Field) -> u8
     ensures { λ r. ⌜ r ≡ headerNumber h ⌝ }
 {
-    if h.wanted != NOTHING {
+    if !is_good(h.stop) {
         return FORM;
     }
     if !rules::count_rule(h.value) {
@@ -64,10 +74,10 @@ pub fn entry_number(last: u32, e: Entry) -> u8
         return COUNT_OR_NOTE;
     }
     let sample = e.sample;
-    if !rules::length_rule(sample.length) {
+    if !rules::good_length(sample) {
         return BAD_LENGTH;
     }
-    if !rules::loop_rule(sample.length, sample.start, sample.end) {
+    if !rules::good_loop(sample) {
         return BAD_LOOP;
     }
     ACCEPTED
@@ -77,7 +87,7 @@ pub fn entry_number(last: u32, e: Entry) -> u8
 pub fn note_number(last: u32, l: NoteLine) -> u8
     ensures { λ r. ⌜ r ≡ noteNumber last l ⌝ }
 {
-    if l.wanted != NOTHING {
+    if !is_good(l.stop) {
         return FORM;
     }
     let e = l.entry;
@@ -87,51 +97,56 @@ pub fn note_number(last: u32, l: NoteLine) -> u8
 fn verdict_at(number: u8, line: u32) -> Verdict
     ensures { λ r. ⌜ r ≡ verdictAt number line ⌝ }
 {
-    Verdict { no: number, line }
+    Verdict { number, line }
 }
 
-// The first bad line of a text.
-pub fn judged(text: &[u8]) -> Verdict
-    ensures { λ r. ⌜ r ≡ judged (now (text .entry)) ⌝ }
+// The first bad line of the sheet that begins at a place of a text.
+pub fn judged(text: &[u8], at: usize) -> Verdict
+    ensures { λ r. ⌜ r ≡ judged (now (text .entry)) at ⌝ }
 {
-    let h = lines::header_line(text);
+    let h = header_at(text, at);
     let first = header_number(h);
     if first != ACCEPTED {
         return verdict_at(first, 1);
     }
+    let header = h.stop;
     let count = h.value;
-    let mut at = h.at;
+    let mut next = header.at;
     let mut last: u32 = 0;
     let mut i: u32 = 0;
     while i < count {
-        let l = lines::note_line(text, at);
-        let no = note_number(last, l);
-        if no != ACCEPTED {
-            return verdict_at(no, i + 2);
+        let l = lines::note_line(text, next);
+        let number = note_number(last, l);
+        if number != ACCEPTED {
+            return verdict_at(number, i + 2);
         }
         let e = l.entry;
+        let stop = l.stop;
         last = e.note;
-        at = l.at;
+        next = stop.at;
         i += 1;
     }
-    if at < text.len() {
+    if next < text.len() {
         return verdict_at(FORM, i + 2);
     }
     verdict_at(ACCEPTED, 0)
 }
 
-// Where the note lines begin and how many there are: none of a refused sheet.
-pub fn start_of(text: &[u8], v: Verdict) -> Start
-    ensures { λ r. ⌜ r ≡ start (now (text .entry)) v ⌝ }
+// Where the note lines begin behind a header, and how many there are: none of a refused sheet.
+pub fn start_of(h: Field, v: Verdict) -> Start
+    ensures { λ r. ⌜ r ≡ start h v ⌝ }
 {
-    let h = lines::header_line(text);
-    if v.no == ACCEPTED {
+    let stop = h.stop;
+    if v.number == ACCEPTED {
         Start {
-            at: h.at,
+            at: stop.at,
             notes: h.value,
         }
     } else {
-        Start { at: h.at, notes: 0 }
+        Start {
+            at: stop.at,
+            notes: 0,
+        }
     }
 }
 
@@ -142,12 +157,13 @@ pub fn listing_at(text: &[u8], at: usize) -> Listing
     let l = lines::note_line(text, at);
     let e = l.entry;
     let sample = e.sample;
+    let stop = l.stop;
     let slot = slots::waiting_slot(sample);
-    let place = session::place_of(e.note as u64);
+    let index = session::slot_index(e.note as u64);
     Listing {
-        place,
+        index,
         slot,
-        next: l.at,
+        next: stop.at,
     }
 }
 
@@ -160,9 +176,9 @@ fn filled(text: &[u8], at: usize, notes: u32) -> Session
     let mut i: u32 = 0;
     while i < notes {
         let l = listing_at(text, next);
-        let place = l.place;
+        let index = l.index;
         let slot = l.slot;
-        session.slots[place] = slot;
+        session.slots[index] = slot;
         next = l.next;
         i += 1;
     }
@@ -173,12 +189,8 @@ fn filled(text: &[u8], at: usize, notes: u32) -> Session
 pub fn read(text: &[u8]) -> Sheet
     ensures { λ r. ⌜ r ≡ sheetOf (now (text .entry)) ⌝ }
 {
-    let v = judged(text);
-    let from = start_of(text, v);
+    let verdict = judged(text, 0);
+    let from = start_of(header_at(text, 0), verdict);
     let session = filled(text, from.at, from.notes);
-    Sheet {
-        no: v.no,
-        line: v.line,
-        session,
-    }
+    Sheet { verdict, session }
 }

@@ -2,6 +2,7 @@
 use Prim.Native.Nat.{ℕ, zero, suc, _+_, _*_, _<_}
 use mathlib.Core.Path.{_≡_, refl, sym, ap, _∙_}
 use mathlib.Core.List.{List, [], _∷_, _++_, append-assoc, append-nil}
+use mathlib.Core.Bool.{true, true≢false}
 use mathlib.Core.Logic.{⊎-elim}
 use native.Mathlib.Nat.{add-zero}
 use native.Mathlib.Numerals.{add-one}
@@ -10,12 +11,13 @@ use lib.ListN.{length, getD, drop}
 use lib.Seq.{drop-cons}
 use Rattle.hex.specs.Digits.{digitOf}
 use Rattle.hex.proofs.Digits.{digit-value, digit-below, value-digit}
-use Rattle.lines.specs.Reading.{nothing, digit, goodDigest, digestFault, digitAt, pairAt, digestFrom, digestAt}
+use Rattle.lines.specs.Reading.{nothing, digit, fault, isGood}
+use Rattle.lines.specs.Fields.{goodDigest, digestFault, digitAt, pairAt, digestFrom, digestAt}
 use Rattle.lines.specs.declared.DigestField.{DigestField}
 use Rattle.lines.proofs.Digests.{digit-before, pair-none, pair-one, pair-both}
-use Rattle.lines.proofs.Tests.{below-or-not}
+use Rattle.truth.proofs.Tests.{below-or-not}
 use Rattle.sheet_promises.specs.Grammar.{Pairs, no-pair, pair, IsDigest}
-use Rattle.sheet_promises.proofs.Standing.{behind, stands-byte}
+use Rattle.sheet_promises.proofs.Standing.{Part, behind, stands-byte}
 
 -- two digits a byte
 pub two-a-byte : (text bytes : List ℕ) → Pairs text bytes → length text ≡ length bytes * 2
@@ -23,7 +25,7 @@ two-a-byte text bytes no-pair = refl
 two-a-byte text bytes (pair {text = t} {bytes = b} high low dh dl more) = omega (arith, two-a-byte t b more)
 
 -- pairs that stand at a place are read
-pub pairs-read : (text piece bytes rest : List ℕ) (at : ℕ) (done : List ℕ) → Pairs piece bytes → drop at text ≡ piece ++ rest
+pairs-read : (text piece bytes rest : List ℕ) (at : ℕ) (done : List ℕ) → Pairs piece bytes → drop at text ≡ piece ++ rest
     → digestFrom (length bytes) text at done ≡ goodDigest (done ++ bytes) (at + length piece)
 unfolding digestFrom digitAt pairAt
 pairs-read text piece bytes rest at done no-pair e = rw (append-nil done, add-zero at)
@@ -36,20 +38,20 @@ pairs-read text piece bytes rest at done (pair {first = a} {second = b} {text = 
     ∙ pairs-read text t bs rest (at + 2) (done ++ (pairAt text at ∷ [])) more (behind text (a ∷ b ∷ []) (t ++ rest) at e)
     ∙ rw (ha, hb, place, append-assoc done ((high * 16 + low) ∷ []) bs)
 
-pub digest-read : (text piece bytes rest : List ℕ) (at : ℕ) → IsDigest piece bytes → drop at text ≡ piece ++ rest → digestAt text at ≡ goodDigest bytes (at + length piece)
+pub digest-read : (text piece bytes : List ℕ) (at next : ℕ) → IsDigest piece bytes → Part text at piece next → digestAt text at ≡ goodDigest bytes next
 unfolding IsDigest digestAt
-digest-read text piece bytes rest at d e =
+digest-read text piece bytes at next d p =
     let size : length bytes ≡ 32 = omega (arith, two-a-byte piece bytes (d .0)) in
-    rw size at (pairs-read text piece bytes rest at [] (d .0) e)
+    rw size at (pairs-read text piece bytes (drop next text) at [] (d .0) (p .cut)) ∙ ap (goodDigest bytes) (sym (p .ends))
 
 -- what is read as pairs stands there
-pub record PairsStand (n : ℕ) (text : List ℕ) (at : ℕ) (done : List ℕ) : Type 0 where
-  pub piece : List ℕ
-  pub bytes : List ℕ
-  pub pairs : Pairs piece bytes
-  pub size : length bytes ≡ n
-  pub read : digestFrom n text at done .bytes ≡ done ++ bytes
-  pub cut : drop at text ≡ piece ++ drop (digestFrom n text at done .at) text
+record PairsStand (n : ℕ) (text : List ℕ) (at : ℕ) (done : List ℕ) : Type 0 where
+  piece : List ℕ
+  bytes : List ℕ
+  pairs : Pairs piece bytes
+  size : length bytes ≡ n
+  read : digestFrom n text at done .digest ≡ done ++ bytes
+  part : Part text at piece (digestFrom n text at done .stop .at)
 
 -- a byte of two digits, and those after it
 more-stand : (n : ℕ) (text : List ℕ) (at : ℕ) (done : List ℕ) → digitAt text at < 16 → digitAt text (at + 1) < 16
@@ -71,21 +73,22 @@ more-stand n text at done ha hb p =
       pairs = pair (digitOf a) (digitOf b) (value-digit a ha) (value-digit b hb) (p .pairs);
       size = ap suc (p .size);
       read = rw same (p .read ∙ append-assoc done (pairAt text at ∷ []) (p .bytes));
-      cut = rw same (two ∙ ap (λ (l : List ℕ). a ∷ b ∷ l) (p .cut));
+      part = rw same (record { cut = two ∙ ap (λ (l : List ℕ). a ∷ b ∷ l) (p .part .cut); ends = let e = p .part .ends in omega arith });
     }
 
-pub pairs-stand : (n : ℕ) (text : List ℕ) (at : ℕ) (done : List ℕ) → digestFrom n text at done .wanted ≡ nothing → PairsStand n text at done
-unfolding digestFrom goodDigest digestFault
-pairs-stand zero text at done h = record { piece = []; bytes = []; pairs = no-pair; size = refl; read = sym (append-nil done); cut = refl }
+pairs-stand : (n : ℕ) (text : List ℕ) (at : ℕ) (done : List ℕ) → isGood (digestFrom n text at done .stop) ≡ true → PairsStand n text at done
+unfolding digestFrom
+pairs-stand zero text at done h =
+    record { piece = []; bytes = []; pairs = no-pair; size = refl; read = sym (append-nil done); part = record { cut = refl; ends = sym (add-zero at) } }
 pairs-stand (suc n) text at done h =
-    let none : (place : ℕ) → digestFrom (suc n) text at done ≡ digestFault place → PairsStand (suc n) text at done =
-    λ place e. let no : digit ≡ nothing = ap (λ (d : DigestField). d .wanted) (sym e) ∙ h in absurd (omega arith) in
+    let none : (place : ℕ) → digestFrom (suc n) text at done ≡ digestFault (fault digit place) → PairsStand (suc n) text at done =
+    λ place e. absurd (true≢false (sym (ap (λ (d : DigestField). isGood (d .stop)) (sym e) ∙ h))) in
     ⊎-elim
     (λ ha.
     ⊎-elim
     (λ hb.
     more-stand n text at done ha hb
-    (pairs-stand n text (at + 2) (done ++ (pairAt text at ∷ [])) (ap (λ (d : DigestField). d .wanted) (sym (pair-both n text at done ha hb)) ∙ h)))
+    (pairs-stand n text (at + 2) (done ++ (pairAt text at ∷ [])) (ap (λ (d : DigestField). isGood (d .stop)) (sym (pair-both n text at done ha hb)) ∙ h)))
     (λ hb. none (at + 1) (pair-one n text at done ha hb))
     (below-or-not (digitAt text (at + 1)) 16))
     (λ ha. none at (pair-none n text at done ha))
@@ -93,15 +96,15 @@ pairs-stand (suc n) text at done h =
 
 pub record DigestStands (text : List ℕ) (at : ℕ) : Type 0 where
   pub piece : List ℕ
-  pub is-digest : IsDigest piece (digestAt text at .bytes)
-  pub cut : drop at text ≡ piece ++ drop (digestAt text at .at) text
+  pub is-digest : IsDigest piece (digestAt text at .digest)
+  pub part : Part text at piece (digestAt text at .stop .at)
 
-pub digest-stands : (text : List ℕ) (at : ℕ) → digestAt text at .wanted ≡ nothing → DigestStands text at
+pub digest-stands : (text : List ℕ) (at : ℕ) → isGood (digestAt text at .stop) ≡ true → DigestStands text at
 unfolding IsDigest digestAt
 digest-stands text at h =
     let p = pairs-stand 32 text at [] h in
     record {
       piece = p .piece;
       is-digest = (rw (p .read) (p .pairs), omega (arith, two-a-byte (p .piece) (p .bytes) (p .pairs), p .size));
-      cut = p .cut;
+      part = p .part;
     }

@@ -20,9 +20,9 @@ more-follows last text es now byte rest (line {text = front} {rest = behind} {e 
     let place : now + 1 + length more ≡ now + length (e ∷ more) = omega arith in
     later l (append-assoc front behind (byte ∷ rest)) o (rw place at (more-follows (e .note) behind more (now + 1) byte rest ls os))
 
-pub text-after : (text : List ℕ) (es : List Entry) → IsSheet text es → (byte : ℕ) (rest : List ℕ) → judged (text ++ (byte ∷ rest)) ≡ verdictAt form (length es + 2)
+pub text-after : (text : List ℕ) (es : List Entry) → IsSheet text es → (byte : ℕ) (rest : List ℕ) → judged (text ++ (byte ∷ rest)) 0 ≡ verdictAt form (length es + 2)
 text-after text es s byte rest =
     let cut : text ++ (byte ∷ rest) ≡ s .header ++ (s .lines ++ (byte ∷ rest)) = ap (λ (t : List ℕ). t ++ (byte ∷ rest)) (s .whole) ∙ append-assoc (s .header) (s .lines) (byte ∷ rest) in
     let place : 2 + length es ≡ length es + 2 = omega arith in
-    bad-refused (text ++ (byte ∷ rest)) form (length es + 2)
+    bad-refused (text ++ (byte ∷ rest)) 0 form (length es + 2)
     (notes (s .header) (s .lines ++ (byte ∷ rest)) (length es) (s .is-header) cut (s .count-rule) (rw place at (more-follows 0 (s .lines) es 2 byte rest (s .are-lines) (s .obeyed))))

@@ -1,13 +1,12 @@
 pub mod Standing
-pub mod Numbers
-pub mod Fields
+pub mod Steps
 pub mod Digests
 pub mod Lines
 pub mod Rules
+pub mod Records
 pub mod Notes
 pub mod Sheets
-pub mod Following
 pub mod Listing
-pub mod Records
+pub mod Following
 pub mod Sizes
-pub mod Kept
+pub mod Proved

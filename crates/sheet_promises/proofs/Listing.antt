@@ -7,35 +7,36 @@ use mathlib.Core.Logic.{_⊎_, inl, inr, ⊎-elim, ⊎-map}
 use borrow.Author.Tests.{eqb-true, eqb-false}
 use lib.Dec.{eqb}
 use native.Mathlib.Omega.{arith}
-use lib.ListN.{length, getD, set, length-set, getD-replicate}
-use lib.Seq.{getD-set-same, getD-set-other, ext-getD}
+use lib.ListN.{length, getD, length-set}
+use lib.Seq.{ext-getD}
 use Rattle.slots.specs.Slots.{emptySlot, waitingSlot}
-use Rattle.session.specs.Deliver.{emptySession}
 use Rattle.rules.specs.Rules.{isNote, noteRule}
 use Rattle.rules.proofs.Rules.{is-note-is, note-rule-is}
-use Rattle.session.specs.Deliver.{placeOf, slotOf}
+use Rattle.session.specs.Sessions.{emptySession, slotIndex, slotOf, putSlot}
 use Rattle.session.specs.declared.Session.{Session}
-use Rattle.session.proofs.Places.{place-lt, slot-at}
-use Rattle.session.proofs.Apart.{places-differ}
-use Rattle.same.proofs.Tests.{first as both-first}
+use Rattle.session.proofs.Putting.{index-lt, indices-differ, slot-at, put-own, put-other}
+use Rattle.session.proofs.Proved.{proved as empty}
+use Rattle.slots.proofs.Proved.{proved as slot}
+use Rattle.truth.proofs.Tests.{first as both-first}
 use Rattle.sheet.specs.Judging.{withNotes}
 use Rattle.lines.specs.declared.Entry.{Entry}
-use Rattle.lines.proofs.Tests.{either}
+use Rattle.truth.proofs.Tests.{either}
 use Rattle.sheet_promises.specs.Grammar.{ObeysRules, AllObey, no-entry, entry}
 use Rattle.sheet_promises.specs.Promises.{Among, first, further, Lists}
 
 -- the session with one entry's note listed
-with-entry : Session → Entry → Session
-with-entry s e = record { slots = set (s .slots) (placeOf (e .note)) (waitingSlot (e .sample)) }
+abbrev with-entry : Session → Entry → Session
+with-entry s e = putSlot s (e .note) (waitingSlot (e .sample))
 
 own : (s : Session) (e : Entry) → length (s .slots) ≡ 32 → slotOf (with-entry s e) (e .note) ≡ waitingSlot (e .sample)
-unfolding slotOf with-entry
-own s e size = getD-set-same (s .slots) (placeOf (e .note)) (waitingSlot (e .sample)) emptySlot (rw size (place-lt (e .note)))
+own s e size = put-own s (e .note) (waitingSlot (e .sample)) (rw size (index-lt (e .note)))
 
 other : (s : Session) (e : Entry) (note : ℕ) → isNote (e .note) ≡ true → isNote note ≡ true → (e .note ≡ note → ⊥) → slotOf (with-entry s e) note ≡ slotOf s note
-unfolding slotOf with-entry
-other s e note is is′ differ =
-    getD-set-other (s .slots) (placeOf (e .note)) (placeOf note) (waitingSlot (e .sample)) emptySlot (places-differ note (e .note) (λ same. differ (sym same)) is′ is)
+other s e note is is′ differ = put-other s (e .note) note (waitingSlot (e .sample)) (indices-differ note (e .note) (λ same. differ (sym same)) is′ is)
+
+as-many : (s : Session) (e : Entry) → length (with-entry s e .slots) ≡ length (s .slots)
+unfolding putSlot
+as-many s e = length-set (s .slots) (slotIndex (e .note)) (waitingSlot (e .sample))
 
 -- what rule 2 tells of an entry
 module _ (last : ℕ) (e : Entry) (o : ObeysRules last e) where
@@ -53,14 +54,14 @@ above last es (entry {e = d} {es = more} o os) e (further a) = let up : d .note 
 
 -- the slots stay as many
 pub slots-as-many : (s : Session) (es : List Entry) → length (withNotes s es .slots) ≡ length (s .slots)
-unfolding withNotes with-entry
+unfolding withNotes
 slots-as-many s [] = refl
-slots-as-many s (e ∷ es) = slots-as-many (with-entry s e) es ∙ length-set (s .slots) (placeOf (e .note)) (waitingSlot (e .sample))
+slots-as-many s (e ∷ es) = slots-as-many (with-entry s e) es ∙ as-many s e
 
 -- a note of no entry keeps its slot
 pub others-keep : (s : Session) (last : ℕ) (es : List Entry) → AllObey last es → (note : ℕ) → isNote note ≡ true
     → ((e : Entry) → Among e es → e .note ≡ note → ⊥) → slotOf (withNotes s es) note ≡ slotOf s note
-unfolding withNotes with-entry
+unfolding withNotes
 others-keep s last [] no-entry note is none = refl
 others-keep s last (e ∷ es) (entry o os) note is none =
     others-keep (with-entry s e) (e .note) es os note is (λ d a. none d (further a))
@@ -69,29 +70,27 @@ others-keep s last (e ∷ es) (entry o os) note is none =
 -- an entry's note has its slot
 pub own-slot : (s : Session) (last : ℕ) (es : List Entry) → length (s .slots) ≡ 32 → AllObey last es → (e : Entry) → Among e es
     → slotOf (withNotes s es) (e .note) ≡ waitingSlot (e .sample)
-unfolding withNotes with-entry
+unfolding withNotes
 own-slot s last es size (entry {es = more} o os) e first =
     others-keep (with-entry s e) (e .note) more os (e .note) (is-a-note last e o) (λ d a same. let over : e .note < d .note = above (e .note) more os d a in omega arith)
     ∙ own s e size
 own-slot s last es size (entry {e = d} {es = more} o os) e (further a) =
-    own-slot (with-entry s d) (d .note) more (length-set (s .slots) (placeOf (d .note)) (waitingSlot (d .sample)) ∙ size) os e a
+    own-slot (with-entry s d) (d .note) more (as-many s d ∙ size) os e a
 
--- from the session with no note withNotes
-empty-size : length (emptySession .slots) ≡ 32
-unfolding emptySession
-empty-size = refl
-
-empty-slots : (note : ℕ) → slotOf emptySession note ≡ emptySlot
-unfolding emptySession slotOf
-empty-slots note = getD-replicate 32 (placeOf note) emptySlot emptySlot (place-lt note)
-
+-- from the session with no note listed
 pub lists-entries : (es : List Entry) → AllObey 0 es → Lists (withNotes emptySession es) es
 lists-entries es o =
     record {
-      slots = slots-as-many emptySession es ∙ empty-size;
-      listed = own-slot emptySession 0 es empty-size o;
-      others = λ note low high none. others-keep emptySession 0 es o note (is-note-is note .1 (low, high)) none ∙ empty-slots note;
+      slots = slots-as-many emptySession es ∙ empty .empty-slots;
+      listed = λ e among. own-slot emptySession 0 es (empty .empty-slots) o e among ∙ slot .begins (e .sample);
+      others =
+          λ note low high none.
+          others-keep emptySession 0 es o note (is-note-is note .1 (low, high)) none ∙ empty .empty-lists note ∙ slot .empty;
     }
+
+pub lists-none : Lists emptySession []
+unfolding withNotes
+lists-none = lists-entries [] no-entry
 
 -- a note is that of an entry, or of none
 some : {e : Entry} {es : List Entry} → Among e es → 1 ≤ length es

@@ -2,18 +2,18 @@
 use Prim.Native.Nat.{ℕ, zero, suc, _+_}
 use mathlib.Core.Path.{_≡_, refl, sym, ap, _∙_}
 use mathlib.Core.List.{List, [], _∷_, _++_}
+use mathlib.Core.Bool.{true, false}
 use mathlib.Core.Logic.{_⊎_, inl, inr, ⊎-elim, ⊎-map}
 use native.Mathlib.Omega.{arith}
-use borrow.Author.Tests.{eqb-true, eqb-false}
-use lib.Dec.{eqb}
 use lib.ListN.{length, drop, length-drop, drop-of-length-le}
 use lib.Seq.{drop-cons}
 use Rattle.refusal.specs.Table.{accepted, form}
-use Rattle.lines.specs.Reading.{nothing, goodLine, noteLine}
+use Rattle.lines.specs.Reading.{isGood}
+use Rattle.lines.specs.Lines.{goodLine, noteLine}
 use Rattle.sheet.specs.Judging.{entryNumber, noteNumber, verdictAt, judgedNotes, entriesAt}
 use Rattle.lines.specs.declared.Entry.{Entry}
 use Rattle.lines.specs.declared.NoteLine.{NoteLine}
-use Rattle.lines.proofs.Tests.{either, below-or-not}
+use Rattle.truth.proofs.Tests.{either, below-or-not, never, not-both}
 use Rattle.sheet.proofs.Verdicts.{line-ill, line-well, this-decides, rest-decides, text-follows, nothing-follows}
 use Rattle.sheet_promises.specs.Grammar.{IsLine, Lines, no-line, line, ObeysRules, AllObey, no-entry, entry}
 use Rattle.sheet_promises.specs.Faults.{Breaks, BadLine, ill-formed, breaks, FirstBad, here, later, follows}
@@ -24,13 +24,11 @@ use Rattle.sheet_promises.proofs.Rules.{obeys-number, breaks-number, br
 -- a line that stands at a place is judged by its entry
 pub entry-judged : (text piece rest : List ℕ) (at last : ℕ) (e : Entry) → IsLine piece e → drop at text ≡ piece ++ rest
     → noteNumber last (goodLine e (at + length piece)) ≡ entryNumber last e
-unfolding goodLine
 entry-judged text piece rest at last e l stands = line-well last (goodLine e (at + length piece)) refl
 
 -- a good line, and then the others
 module _ (text piece rest : List ℕ) (notes at number last : ℕ) (e : Entry) (l : IsLine piece e) (stands : drop at text ≡ piece ++ rest) (o : ObeysRules last e) where
   pub good-line : judgedNotes (suc notes) text at number last ≡ judgedNotes notes text (at + length piece) (number + 1) (e .note)
-  unfolding goodLine
   good-line =
       rest-decides text notes at number last (goodLine e (at + length piece)) (sym (line-read text piece rest at e l stands)) accepted
       (sym (entry-judged text piece rest at last e l stands ∙ obeys-number last e o)) refl
@@ -46,7 +44,7 @@ all-good text s es at number last (line {text = piece} {rest = rest} {e = e} {es
 
 -- their entries are those that are read
 pub entries-read : (text s : List ℕ) (es : List Entry) (at : ℕ) → Lines s es → drop at text ≡ s → entriesAt (length es) text at ≡ es
-unfolding entriesAt goodLine
+unfolding entriesAt
 entries-read text s es at no-line stands = refl
 entries-read text s es at (line {text = piece} {rest = rest} {e = e} {es = more} l ls) stands =
     rw (line-read text piece rest at e l stands)
@@ -54,9 +52,9 @@ entries-read text s es at (line {text = piece} {rest = rest} {e = e} {es = more}
 
 -- a bad line has its number
 pub bad-number : (text s : List ℕ) (at last number : ℕ) → BadLine last s number → drop at text ≡ s → noteNumber last (noteLine text at) ≡ number
-unfolding goodLine
 bad-number text s at last number (ill-formed none) stands =
-    line-ill last (noteLine text at) (λ well. let w = line-stands text at well in none (w .piece) _ _ (w .is-line) (sym stands ∙ w .cut))
+    line-ill last (noteLine text at)
+    (never _ (λ well. let w = line-stands text at well in none (w .piece) _ _ (w .is-line) (sym stands ∙ w .part .cut)))
 bad-number text s at last number (breaks piece rest e l cut b) stands =
     ap (noteNumber last) (line-read text piece rest at e l (stands ∙ cut))
     ∙ entry-judged text piece rest at last e l (stands ∙ cut)
@@ -89,9 +87,9 @@ pub record GoodLines (notes : ℕ) (text : List ℕ) (at last : ℕ) : Type 0 wh
   pub as-many : length entries ≡ notes
   pub obeyed : AllObey last entries
 
-abbrev pub BadLines : ℕ → List ℕ → ℕ → ℕ → ℕ → Type 0
+abbrev pub BadLines : (notes : ℕ) (text : List ℕ) (at now last : ℕ) → Type 0
 BadLines notes text at now last =
-    FirstBad now notes last (drop at text) (judgedNotes notes text at now last .no) (judgedNotes notes text at now last .line)
+    FirstBad now notes last (drop at text) (judgedNotes notes text at now last .number) (judgedNotes notes text at now last .line)
 
 -- a verdict that is known
 verdict : (notes : ℕ) (text : List ℕ) (at now last number bad : ℕ) → judgedNotes notes text at now last ≡ verdictAt number bad
@@ -100,19 +98,18 @@ unfolding verdictAt
 verdict notes text at now last number bad e b = rw e b
 
 -- no line stands where none is read
-unread : (text : List ℕ) (at : ℕ) → (noteLine text at .wanted ≡ nothing → ⊥) → (front rest : List ℕ) (e : Entry) → IsLine front e → drop at text ≡ front ++ rest → ⊥
-unfolding goodLine
-unread text at ill front rest e l cut = ill (ap (λ (r : NoteLine). r .wanted) (line-read text front rest at e l cut))
+unread : (text : List ℕ) (at : ℕ) → isGood (noteLine text at .stop) ≡ false → (front rest : List ℕ) (e : Entry) → IsLine front e → drop at text ≡ front ++ rest → ⊥
+unread text at ill front rest e l cut = not-both _ ill (ap (λ (r : NoteLine). isGood (r .stop)) (line-read text front rest at e l cut))
 
 -- the line at a place, with what is known of those behind it
 module _ (notes : ℕ) (text : List ℕ) (at now last : ℕ) where
-  ill : (noteLine text at .wanted ≡ nothing → ⊥) → BadLines (suc notes) text at now last
+  ill : isGood (noteLine text at .stop) ≡ false → BadLines (suc notes) text at now last
   ill bad =
       verdict (suc notes) text at now last form now
       (this-decides text notes at now last (noteLine text at) refl form (sym (line-ill last (noteLine text at) bad)) (λ h. omega arith))
       (here (ill-formed (unread text at bad)))
 
-  module _ (w : noteLine text at .wanted ≡ nothing) where
+  module _ (w : isGood (noteLine text at .stop) ≡ true) where
     number : noteNumber last (noteLine text at) ≡ entryNumber last (noteLine text at .entry)
     number = line-well last (noteLine text at) w
 
@@ -121,37 +118,35 @@ module _ (notes : ℕ) (text : List ℕ) (at now last : ℕ) where
         let s = line-stands text at w in
         verdict (suc notes) text at now last _ now
         (this-decides text notes at now last (noteLine text at) refl _ (sym number) (breaks-refused last _ _ b))
-        (here (breaks (s .piece) _ _ (s .is-line) (s .cut) b))
+        (here (breaks (s .piece) _ _ (s .is-line) (s .part .cut) b))
 
     module _ (o : ObeysRules last (noteLine text at .entry)) where
-      passed : judgedNotes (suc notes) text at now last ≡ judgedNotes notes text (noteLine text at .at) (now + 1) (noteLine text at .entry .note)
+      passed : judgedNotes (suc notes) text at now last ≡ judgedNotes notes text (noteLine text at .stop .at) (now + 1) (noteLine text at .entry .note)
       passed = rest-decides text notes at now last (noteLine text at) refl accepted (sym (number ∙ obeys-number last _ o)) refl
 
-      longer : GoodLines notes text (noteLine text at .at) (noteLine text at .entry .note) → GoodLines (suc notes) text at last
+      longer : GoodLines notes text (noteLine text at .stop .at) (noteLine text at .entry .note) → GoodLines (suc notes) text at last
       longer g =
           let s = line-stands text at w in
           record {
             entries = noteLine text at .entry ∷ g .entries;
-            are-lines = rw (s .cut) (line (s .is-line) (g .are-lines));
+            are-lines = rw (s .part .cut) (line (s .is-line) (g .are-lines));
             as-many = ap suc (g .as-many);
             obeyed = entry o (g .obeyed);
           }
 
-      behind-it : BadLines notes text (noteLine text at .at) (now + 1) (noteLine text at .entry .note) → BadLines (suc notes) text at now last
+      behind-it : BadLines notes text (noteLine text at .stop .at) (now + 1) (noteLine text at .entry .note) → BadLines (suc notes) text at now last
       behind-it b =
           let s = line-stands text at w in
-          rw passed (later (s .is-line) (s .cut) o b)
+          rw passed (later (s .is-line) (s .part .cut) o b)
 
-  with-line : GoodLines notes text (noteLine text at .at) (noteLine text at .entry .note)
-      ⊎ BadLines notes text (noteLine text at .at) (now + 1) (noteLine text at .entry .note)
+  with-line : GoodLines notes text (noteLine text at .stop .at) (noteLine text at .entry .note)
+      ⊎ BadLines notes text (noteLine text at .stop .at) (now + 1) (noteLine text at .entry .note)
       → GoodLines (suc notes) text at last ⊎ BadLines (suc notes) text at now last
   with-line behind =
       ⊎-elim
-      (λ e.
-      let w : noteLine text at .wanted ≡ nothing = eqb-true _ _ e in
-      ⊎-elim (λ o. ⊎-map (longer w o) (behind-it w o) behind) (λ b. inr (broken w b)) (obeys-or-breaks last (noteLine text at .entry)))
-      (λ e. inr (ill (eqb-false _ _ e)))
-      (either (eqb (noteLine text at .wanted) nothing))
+      (λ w. ⊎-elim (λ o. ⊎-map (longer w o) (behind-it w o) behind) (λ b. inr (broken w b)) (obeys-or-breaks last (noteLine text at .entry)))
+      (λ w. inr (ill w))
+      (either (isGood (noteLine text at .stop)))
 
 pub good-or-bad : (notes : ℕ) (text : List ℕ) (at now last : ℕ) → GoodLines notes text at last ⊎ BadLines notes text at now last
 good-or-bad zero text at now last =
@@ -160,4 +155,4 @@ good-or-bad zero text at now last =
     (λ done. inl (record { entries = []; are-lines = rw (drop-of-length-le text {i = at} done) no-line; as-many = refl; obeyed = no-entry }))
     (below-or-not at (length text))
 good-or-bad (suc notes) text at now last =
-    with-line notes text at now last (good-or-bad notes text (noteLine text at .at) (now + 1) (noteLine text at .entry .note))
+    with-line notes text at now last (good-or-bad notes text (noteLine text at .stop .at) (now + 1) (noteLine text at .entry .note))

@@ -5,7 +5,7 @@ use mathlib.Core.List.{List}
 use mathlib.Core.Bool.{true}
 use native.Mathlib.Omega.{arith}
 use lib.ListN.{length}
-use Rattle.same.proofs.Tests.{both}
+use Rattle.truth.proofs.Tests.{both}
 use Rattle.rules.specs.Rules.{obeys}
 use Rattle.lines.specs.declared.Entry.{Entry}
 use Rattle.sheet_promises.specs.Grammar.{IsDigest, IsLine, Lines, line, ObeysRules, AllObey, entry}

@@ -6,9 +6,10 @@ use native.Mathlib.Nat.{pow-suc}
 use native.Mathlib.Omega.{arith}
 use native.Mathlib.Decide.{decLt}
 use lib.ListN.{length, length-append}
+use Rattle.decimal.specs.Numbers.{Decimal, figure, longer, IsNumber}
 use Rattle.rules.proofs.Rules.{count-rule-is, note-rule-is}
 use Rattle.lines.specs.declared.Entry.{Entry}
-use Rattle.sheet_promises.specs.Grammar.{Decimal, figure, longer, IsNumber, IsDigest, IsField, IsHeader, IsLine, Lines, no-line, line, ObeysRules, AllObey, no-entry, entry, IsSheet}
+use Rattle.sheet_promises.specs.Grammar.{IsDigest, IsField, IsHeader, IsLine, Lines, no-line, line, ObeysRules, AllObey, no-entry, entry, IsSheet}
 
 -- a number below a power of ten has as many figures at most
 figures-most : (n : ℕ) (text : List ℕ) (value : ℕ) → Decimal text value → value < 10 ^ suc n → length text ≤ suc n
@@ -40,14 +41,14 @@ module _ (text : List ℕ) (e : Entry) (l : IsLine text e) where
   line-size : length text ≤ length (l .note) + 98
   unfolding IsDigest
   line-size =
-      let one = ten-figures (l .bytes) _ _ (l .is-length) in
+      let one = ten-figures (l .size) _ _ (l .is-length) in
       let two = ten-figures (l .start) _ _ (l .is-start) in
       let three = ten-figures (l .end) _ _ (l .is-end) in
       let digest = l .is-digest .1 in
       omega (
         arith,
         ap length (l .whole) ∙ length-append (l .note) _,
-        length-append (l .bytes) (l .start ++ (l .end ++ (l .digest ++ (10 ∷ [])))),
+        length-append (l .size) (l .start ++ (l .end ++ (l .digest ++ (10 ∷ [])))),
         length-append (l .start) (l .end ++ (l .digest ++ (10 ∷ []))),
         length-append (l .end) (l .digest ++ (10 ∷ [])),
         length-append (l .digest) (10 ∷ []),

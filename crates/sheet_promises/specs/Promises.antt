@@ -2,16 +2,19 @@
 use Prim.Native.Nat.{ℕ, _+_, _≤_}
 use mathlib.Core.Path.{_≡_}
 use mathlib.Core.Logic.{_↔_}
-use mathlib.Core.List.{List, _∷_, _++_}
-use lib.ListN.{length}
+use mathlib.Core.List.{List, [], _∷_, _++_}
+use lib.ListN.{length, drop, replicate}
 use Rattle.refusal.specs.Table.{accepted, form}
-use Rattle.slots.specs.Slots.{emptySlot, waitingSlot}
-use Rattle.session.specs.Deliver.{emptySession}
-use Rattle.session.specs.Deliver.{slotOf}
+use Rattle.standard.specs.Standard.{IV}
+use Rattle.session.specs.Sessions.{slotOf}
 use Rattle.session.specs.declared.Session.{Session}
-use Rattle.sheet.specs.Judging.{judged, sheetOf}
+use Rattle.slots.specs.declared.Slot.{Slot}
+use Rattle.sheet.specs.Judging.{headerAt, judged, sheetOf}
+use Rattle.sheet.specs.declared.Sheet.{Sheet}
+use Rattle.lines.specs.Lines.{noteLine}
 use Rattle.lines.specs.declared.Entry.{Entry}
-use Rattle.sheet_promises.specs.Grammar.{IsNumber, IsSheet}
+use Rattle.rules.specs.declared.Record.{Record}
+use Rattle.sheet_promises.specs.Grammar.{IsHeader, IsLine, IsSheet}
 use Rattle.sheet_promises.specs.Faults.{Refused}
 
 -- an entry is one of a sheet's
@@ -19,32 +22,64 @@ pub data Among (e : Entry) : List Entry → Type 0 where
   first : {es : List Entry} → Among e (e ∷ es)
   further : {d : Entry} {es : List Entry} → Among e es → Among e (d ∷ es)
 
+-- "waiting, with its own line's record and a fresh state", written out
+abbrev pub freshlyWaiting : Record → Slot
+freshlyWaiting r = record { sample = r; state = record { words = IV; total = 0; tail = replicate 64 0 }; status = 1 }
+
+-- "record zero and a fresh state", unlisted, written out
+abbrev pub notListed : Slot
+notListed =
+    record {
+      sample = record { length = 0; «loop_start» = 0; «loop_end» = 0; digest = replicate 32 0 };
+      state = record { words = IV; total = 0; tail = replicate 64 0 };
+      status = 0;
+    }
+
 -- "An accepted sheet's session lists exactly the notes of its lines, each waiting, with its own line's record and a fresh state."
 pub record Lists (s : Session) (es : List Entry) : Type 0 where
   pub slots : length (s .slots) ≡ 32
-  pub listed : (e : Entry) → Among e es → slotOf s (e .note) ≡ waitingSlot (e .sample)
-  pub others : (note : ℕ) → 1 ≤ note → note ≤ 32 → ((e : Entry) → Among e es → e .note ≡ note → ⊥) → slotOf s note ≡ emptySlot
+  pub listed : (e : Entry) → Among e es → slotOf s (e .note) ≡ freshlyWaiting (e .sample)
+  -- "the sheet reader gives such a slot record zero and a fresh state"
+  pub others : (note : ℕ) → 1 ≤ note → note ≤ 32 → ((e : Entry) → Among e es → e .note ≡ note → ⊥) → slotOf s note ≡ notListed
+
+-- accepted exactly when the text is a sheet: of any reader
+abbrev pub AcceptsOf : (read : List ℕ → Sheet) → Type 0
+AcceptsOf read = (text : List ℕ) → (read text .verdict .number ≡ accepted) ↔ ((es : List Entry) × IsSheet text es)
 
 pub record Promises : Type 0 where
-  -- accepted exactly when the text is a sheet
-  pub accepts : (text : List ℕ) → (sheetOf text .no ≡ accepted) ↔ ((es : List Entry) × IsSheet text es)
+  -- demand 2: "A sheet is accepted exactly when it follows the sheet rules."
+  pub accepts : AcceptsOf sheetOf
   -- "an accepted sheet's line is 0"
-  pub line : (text : List ℕ) → sheetOf text .no ≡ accepted → sheetOf text .line ≡ 0
+  pub line : (text : List ℕ) → sheetOf text .verdict .number ≡ accepted → sheetOf text .verdict .line ≡ 0
   pub lists : (text : List ℕ) (es : List Entry) → IsSheet text es → Lists (sheetOf text .session) es
   -- and no other session does
   pub one-session : (s t : Session) (es : List Entry) → Lists s es → Lists t es → s ≡ t
   -- refused exactly by the first bad line: its number and its line
-  pub refuses : (text : List ℕ) (number line : ℕ)
-      → ((sheetOf text .no ≡ number) × (sheetOf text .line ≡ line) × (number ≡ accepted → ⊥)) ↔ Refused text number line
+  pub refuses :
+      (text : List ℕ) (number line : ℕ)
+      → ((sheetOf text .verdict ≡ record { number = number; line = line }) × (number ≡ accepted → ⊥)) ↔ Refused text number line
   -- "Text after the n notes is a form fault at line n + 2"
-  pub follows : (text : List ℕ) (es : List Entry) → IsSheet text es → (byte : ℕ) (rest : List ℕ)
-      → judged (text ++ (byte ∷ rest)) ≡ record { no = form; line = length es + 2 }
-  -- what the lines are judged to is what the sheet answers
-  pub verdict : (text : List ℕ) → judged text ≡ record { no = sheetOf text .no; line = sheetOf text .line }
+  pub text-follows :
+      (text : List ℕ) (es : List Entry) → IsSheet text es → (byte : ℕ) (rest : List ℕ)
+      → sheetOf (text ++ (byte ∷ rest)) .verdict ≡ record { number = form; line = length es + 2 }
   -- "session with no note listed"
-  pub refused : (text : List ℕ) → (sheetOf text .no ≡ accepted → ⊥) → sheetOf text .session ≡ emptySession
+  pub refused : (text : List ℕ) → (sheetOf text .verdict .number ≡ accepted → ⊥) → Lists (sheetOf text .session) []
   -- "a valid sheet has at most 3,233" bytes
   pub size : (text : List ℕ) (es : List Entry) → IsSheet text es → length text ≤ 3233
-  -- a number has one spelling, and a sheet's lines are what they are
-  pub one-spelling : (text other : List ℕ) (value : ℕ) → IsNumber text value → IsNumber other value → text ≡ other
+  -- the same of the sheet that begins at a place of a text, where a reader stands
+  pub from-start : (text : List ℕ) → sheetOf text .verdict ≡ judged text 0
+  pub judges :
+      (text : List ℕ) (at : ℕ)
+      → (judged text at ≡ record { number = 0; line = 0 }) ↔ ((es : List Entry) × IsSheet (drop at text) es)
+  pub judges-bad :
+      (text : List ℕ) (at number line : ℕ)
+      → ((judged text at ≡ record { number = number; line = line }) × (number ≡ accepted → ⊥)) ↔ Refused (drop at text) number line
+  -- a header and a line that stand at a place are read, and the next place is the one behind them
+  pub reads-header :
+      (text front rest : List ℕ) (at count : ℕ) → IsHeader front count → drop at text ≡ front ++ rest
+      → headerAt text at ≡ record { stop = record { wanted = 0; at = at + length front }; value = count }
+  pub reads-line :
+      (text front rest : List ℕ) (at : ℕ) (e : Entry) → IsLine front e → drop at text ≡ front ++ rest
+      → noteLine text at ≡ record { stop = record { wanted = 0; at = at + length front }; entry = e }
+  -- a sheet's lines are what they are
   pub one-reading : (text : List ℕ) (es others : List Entry) → IsSheet text es → IsSheet text others → es ≡ others

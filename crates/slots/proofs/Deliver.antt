@@ -5,7 +5,7 @@ use mathlib.Core.List.{List}
 use mathlib.Core.Bool.{true, false}
 use borrow.Author.Tests.{eq-eqb, ne-eqb, le-leb, lt-leb, lt-ltb, le-ltb}
 use lib.ListN.{length}
-use Rattle.refusal.specs.Table.{accepted, slot-not-in-order, decided, past-length}
+use Rattle.refusal.specs.Table.{accepted, slotNotInOrder, decided, pastLength}
 use Rattle.hash.specs.Update.{update}
 use Rattle.hash.specs.declared.Updated.{Updated}
 use Rattle.slots.specs.Slots.{waiting, slotInOrder, bytesTaken}
@@ -13,12 +13,12 @@ use Rattle.slots.specs.Delivery.{bareRefusal, asItStands, decidedSlot, w
 use Rattle.slots.specs.declared.Slot.{Slot}
 
 -- an answer as a slot stands
-pub stands : (number t : ℕ) (s : Slot) → t ≡ bytesTaken s → record { no = number; status = s .status; taken = t } ≡ asItStands number s
+pub stands : (number t : ℕ) (s : Slot) → t ≡ bytesTaken s → record { number = number; status = s .status; taken = t } ≡ asItStands number s
 unfolding asItStands
 stands number t s h = rw h
 
 module _ (s : Slot) (piece : List ℕ) where
-  pub not-in-order : slotInOrder s ≡ false → deliverTo s piece ≡ record { answer = bareRefusal slot-not-in-order; slot = s }
+  pub not-in-order : slotInOrder s ≡ false → deliverTo s piece ≡ record { answer = bareRefusal slotNotInOrder; slot = s }
   unfolding deliverTo
   not-in-order o = simp o
 
@@ -27,7 +27,7 @@ module _ (s : Slot) (piece : List ℕ) where
   is-decided o w = simp (o, ne-eqb (s .status) waiting w)
 
   pub runs-past : slotInOrder s ≡ true → s .status ≡ waiting → s .sample .length - s .state .total < length piece
-      → deliverTo s piece ≡ record { answer = asItStands past-length s; slot = s }
+      → deliverTo s piece ≡ record { answer = asItStands pastLength s; slot = s }
   unfolding deliverTo
   runs-past o w l = simp (o, eq-eqb (s .status) waiting w, lt-leb (length piece) (s .sample .length - s .state .total) l)
 
@@ -51,6 +51,6 @@ module _ (s : Slot) where
   unfolding askOf
   asked o = simp o
 
-  pub asked-not-in-order : slotInOrder s ≡ false → askOf s ≡ bareRefusal slot-not-in-order
+  pub asked-not-in-order : slotInOrder s ≡ false → askOf s ≡ bareRefusal slotNotInOrder
   unfolding askOf
   asked-not-in-order o = simp o

@@ -3,4 +3,4 @@ pub mod Deliver
 pub mod Records
 pub mod Pieces
 pub mod Listed
-pub mod Kept
+pub mod Proved

@@ -5,9 +5,9 @@ use mathlib.Core.Bool.{true, false, not}
 use borrow.Author.Tests.{ne-eqb, eqb-false, not-true}
 use lib.Dec.{eqb}
 use Rattle.refusal.specs.Table.{unlisted}
-use Rattle.same.proofs.Tests.{first, second, both}
+use Rattle.truth.proofs.Tests.{first, second, both}
 use Rattle.rules.specs.Rules.{isNote}
-use Rattle.slots.specs.Slots.{absent}
+use Rattle.slots.specs.Slots.{none}
 use Rattle.slots.specs.Delivery.{bareRefusal, askOf, isListed, onSlot, askAt}
 use Rattle.slots.specs.declared.Slot.{Slot}
 use Rattle.slots.specs.declared.Step.{Step}
@@ -15,13 +15,13 @@ use Rattle.slots.specs.declared.Step.{Step}
 module _ (s : Slot) (note : ℕ) where
   pub listed-note : isListed s note ≡ true → isNote note ≡ true
   unfolding isListed
-  listed-note h = first (isNote note) (not (eqb (s .status) absent)) h
+  listed-note h = first (isNote note) (not (eqb (s .status) none)) h
 
-  pub listed-status : isListed s note ≡ true → s .status ≡ absent → ⊥
+  pub listed-status : isListed s note ≡ true → s .status ≡ none → ⊥
   unfolding isListed
-  listed-status h = eqb-false _ _ (not-true _ (second (isNote note) (not (eqb (s .status) absent)) h))
+  listed-status h = eqb-false _ _ (not-true _ (second (isNote note) (not (eqb (s .status) none)) h))
 
-  pub is-listed : isNote note ≡ true → (s .status ≡ absent → ⊥) → isListed s note ≡ true
+  pub is-listed : isNote note ≡ true → (s .status ≡ none → ⊥) → isListed s note ≡ true
   unfolding isListed
   is-listed n h = both _ _ n (ap not (ne-eqb _ _ h))
 

@@ -9,22 +9,21 @@ use borrow.Author.Tests.{ltb-true, ltb-false}
 use lib.Dec.{ltb}
 use lib.ListN.{length}
 use Rattle.refusal.specs.Table.{accepted}
-use Rattle.same.proofs.Tests.{first, never}
+use Rattle.truth.proofs.Tests.{never}
 use Rattle.hash.specs.State.{fresh, inOrder}
-use Rattle.hash.specs.Update.{taken, update}
+use Rattle.hash.specs.Update.{afterPiece, update}
 use Rattle.hash.specs.Digests.{finish, compareState}
 use Rattle.hash.specs.declared.Hash.{Hash}
-use Rattle.hash.proofs.Taking.{taken-nil, inOrder-taken}
-use Rattle.hash.proofs.Kept.{kept}
+use Rattle.hash.specs.declared.Updated.{Updated}
+use Rattle.hash.proofs.Taking.{afterPiece-nil, inOrder-afterPiece}
+use Rattle.hash.proofs.Proved.{proved}
 use Rattle.hash.proofs.Updating.{update-takes}
-use Rattle.rules.specs.Rules.{lengthRule, obeys}
 use Rattle.slots.specs.Slots.{waiting, opened, shut, slotInOrder, bytesTaken}
 use Rattle.slots.specs.Delivery.{decidedSlot, withPiece}
 use Rattle.slots.specs.Promises.{Outcome}
 use Rattle.slots.specs.declared.Slot.{Slot}
 use Rattle.slots.proofs.Records.{piece-kept}
-use Rattle.rules.proofs.Rules.{length-rule-is}
-use Rattle.slots.proofs.Slots.{slot-in-order-is, when-waiting, taken-waiting, has-room}
+use Rattle.slots.proofs.Slots.{slot-in-order-is, when-waiting, has-room}
 use Rattle.slots.proofs.Deliver.{waits-on, decides}
 
 -- a decided slot has taken its length
@@ -47,21 +46,23 @@ module _ (s : Slot) (o : slotInOrder s ≡ true) (w : s .status ≡ waiting) whe
   state-in-order = when-waiting s o w .0
 
   length-fits : s .sample .length ≤ 4294967294
-  unfolding obeys
-  length-fits = length-rule-is _ .0 (first (lengthRule (s .sample .length)) _ (slot-in-order-is s .0 o .0)) .2
+  length-fits = slot-in-order-is s .0 o .0 .at-most
 
-  module _ (piece : List ℕ) (fits : bytesTaken s + length piece ≤ s .sample .length) where
+  module _ (piece : List ℕ) (fits : s .state .total + length piece ≤ s .sample .length) where
     abbrev h : Hash
-    h = taken (s .state) piece
+    h = afterPiece (s .state) piece
 
-    pub takes : update (s .state) piece ≡ record { no = accepted; state = h }
-    takes = update-takes (s .state) piece state-in-order (let t = taken-waiting s w in let l = length-fits in omega arith)
+    pub takes : update (s .state) piece ≡ record { number = accepted; state = h }
+    takes = update-takes (s .state) piece state-in-order (let l = length-fits in omega arith)
 
-    total-after : h .total ≡ bytesTaken s + length piece
-    unfolding taken
-    total-after = rw (taken-waiting s w)
+    same-state : update (s .state) piece .state ≡ h
+    same-state = ap (λ (u : Updated). u .state) takes
 
-    counts : (b : Bool) → ltb (h .total) (s .sample .length) ≡ b → bytesTaken (withPiece s piece) ≡ bytesTaken s + length piece
+    total-after : h .total ≡ s .state .total + length piece
+    unfolding afterPiece
+    total-after = refl
+
+    counts : (b : Bool) → ltb (h .total) (s .sample .length) ≡ b → bytesTaken (withPiece s piece) ≡ s .state .total + length piece
     unfolding bytesTaken
     counts true e = ap bytesTaken (waits-on s piece _ (sym takes) (ltb-true _ _ e)) ∙ total-after
     counts false e =
@@ -69,15 +70,13 @@ module _ (s : Slot) (o : slotInOrder s ≡ true) (w : s .status ≡ waiting) whe
         let t = total-after in
         ap bytesTaken (decides s piece _ (sym takes) k) ∙ decided-taken s h _ refl ∙ omega arith
 
-    pub counted : bytesTaken (withPiece s piece) ≡ bytesTaken s + length piece
+    pub counted : bytesTaken (withPiece s piece) ≡ s .state .total + length piece
     counted = counts _ refl
 
-    waits : bytesTaken s + length piece < s .sample .length → (withPiece s piece .status ≡ waiting) × (withPiece s piece .state ≡ h)
-    waits below =
-        let after = waits-on s piece _ (sym takes) (rw total-after below) in
-        (ap (λ (x : Slot). x .status) after, ap (λ (x : Slot). x .state) after)
+    waits : s .state .total + length piece < s .sample .length → withPiece s piece ≡ record { sample = s .sample; state = update (s .state) piece .state; status = 1 }
+    waits below = waits-on s piece _ refl (rw (same-state, total-after) below)
 
-    module _ (full : bytesTaken s + length piece ≡ s .sample .length) where
+    module _ (full : s .state .total + length piece ≡ s .sample .length) where
       after : withPiece s piece ≡ decidedSlot s h
       after = decides s piece _ (sym takes) (let t = total-after in omega arith)
 
@@ -89,16 +88,16 @@ module _ (s : Slot) (o : slotInOrder s ≡ true) (w : s .status ≡ waiting) whe
       unfolding decidedSlot
       status-is = ap (λ (x : Slot). x .status) after
 
-      fits-is : (compareState h (s .sample .digest) .same ≡ true) ↔ (s .sample .digest ≡ finish h .bytes)
+      fits-is : (compareState h (s .sample .digest) .same ≡ true) ↔ (s .sample .digest ≡ finish (update (s .state) piece .state) .bytes)
       fits-is =
-          let compared = kept .stateCompared h (s .sample .digest) .3 in
-          let ordered : inOrder h ≡ true = inOrder-taken (s .state) state-in-order piece (let t = taken-waiting s w in let l = length-fits in omega arith) in
-          (λ e. compared .0 e .1, λ e. compared .1 (ordered, e))
+          let compared = proved .state-compared h (s .sample .digest) .3 in
+          let ordered : inOrder h ≡ true = inOrder-afterPiece (s .state) state-in-order piece (let l = length-fits in omega arith) in
+          rw same-state (λ e. compared .0 e .1, λ e. compared .1 (ordered, e))
 
-      opens : (withPiece s piece .status ≡ opened) ↔ (s .sample .digest ≡ finish h .bytes)
+      opens : (withPiece s piece .status ≡ opened) ↔ (s .sample .digest ≡ finish (update (s .state) piece .state) .bytes)
       opens = (λ e. fits-is .0 (is-opened _ (sym status-is ∙ e)), λ e. status-is ∙ rw (fits-is .1 e))
 
-      shuts : (withPiece s piece .status ≡ shut) ↔ (s .sample .digest ≡ finish h .bytes → ⊥)
+      shuts : (withPiece s piece .status ≡ shut) ↔ (s .sample .digest ≡ finish (update (s .state) piece .state) .bytes → ⊥)
       shuts = (λ e f. is-shut _ (sym status-is ∙ e) (fits-is .1 f), λ e. status-is ∙ rw (never _ (λ f. e (fits-is .0 f))))
 
     pub outcome-is : Outcome s piece (withPiece s piece)
@@ -106,8 +105,7 @@ module _ (s : Slot) (o : slotInOrder s ≡ true) (w : s .status ≡ waiting) whe
 
   pub empty-piece : withPiece s [] ≡ s
   empty-piece =
-      let t = taken-waiting s w in
       let r = has-room s o w in
-      let same = taken-nil (s .state) state-in-order in
+      let same = afterPiece-nil (s .state) state-in-order in
       waits-on s [] _ (sym (takes [] (omega arith))) (rw same r) ∙ ap (λ k. record { sample = s .sample; state = k; status = waiting }) same
       ∙ ap (λ k. record { sample = s .sample; state = s .state; status = k }) (sym w)

@@ -6,10 +6,12 @@ use mathlib.Core.Bool.{Bool, true, false, true≢false}
 use native.Mathlib.Omega.{arith}
 use borrow.Author.Tests.{eq-eqb, ne-eqb, eqb-true, lt-ltb, ltb-true}
 use lib.Dec.{eqb}
-use Rattle.same.proofs.Tests.{first, second, both}
+use Rattle.truth.proofs.Tests.{first, second, both}
 use Rattle.hash.specs.State.{inOrder}
 use Rattle.hash.proofs.State.{isFresh-fresh, fresh-only}
 use Rattle.rules.specs.Rules.{obeys}
+use Rattle.rules.specs.Promises.{Obeyed}
+use Rattle.rules.proofs.Rules.{obeys-is}
 use Rattle.slots.specs.Slots.{waiting, opened, shut, isDecided, stateInOrder, slotInOrder, bytesTaken}
 use Rattle.slots.specs.Promises.{Decided, StateInOrder}
 use Rattle.slots.specs.declared.Slot.{Slot}
@@ -45,11 +47,11 @@ module _ (s : Slot) where
   state-test (inl (w, o, l)) = simp (eq-eqb _ _ w, o, lt-ltb _ _ l)
   state-test (inr (d, f)) = simp (ne-eqb _ _ (not-waiting s d), decided-test _ d) (rw f isFresh-fresh)
 
-  pub slot-in-order-is : (slotInOrder s ≡ true) ↔ ((obeys (s .sample) ≡ true) × StateInOrder s)
+  pub slot-in-order-is : (slotInOrder s ≡ true) ↔ (Obeyed (s .sample) × StateInOrder s)
   unfolding slotInOrder
   slot-in-order-is = (
-    λ h. (first (obeys (s .sample)) _ h, state-then _ _ refl refl (second (obeys (s .sample)) _ h)),
-    λ h. both _ _ (h .0) (state-test (h .1)),
+    λ h. (obeys-is (s .sample) .0 (first (obeys (s .sample)) _ h), state-then _ _ refl refl (second (obeys (s .sample)) _ h)),
+    λ h. both _ _ (obeys-is (s .sample) .1 (h .0)) (state-test (h .1)),
   )
 
   -- a slot in order waits, with room for more, or is decided
@@ -70,7 +72,11 @@ module _ (s : Slot) where
       other (inl p) = absurd (n (p .0))
       other (inr p) = p .0
 
-  -- a waiting slot has taken what is in its hash state
+  -- a waiting slot has taken what is in its hash state, a decided one its length
   pub taken-waiting : s .status ≡ waiting → bytesTaken s ≡ s .state .total
   unfolding bytesTaken
   taken-waiting w = simp (eq-eqb _ _ w)
+
+  pub taken-decided : Decided s → bytesTaken s ≡ s .sample .length
+  unfolding bytesTaken
+  taken-decided d = simp (ne-eqb _ _ (not-waiting s d))

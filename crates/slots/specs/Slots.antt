@@ -8,8 +8,8 @@ use Rattle.rules.specs.declared.Record.{Record}
 use Rattle.slots.specs.declared.Slot.{Slot}
 
 -- "a status (0 none, 1 waiting, 2 open, 3 shut)"
-abbrev pub absent : ℕ
-absent = 0
+abbrev pub none : ℕ
+none = 0
 
 abbrev pub waiting : ℕ
 waiting = 1
@@ -24,7 +24,8 @@ shut = 3
 unfoldable pub isDecided : ℕ → Bool
 isDecided status = eqb status opened || eqb status shut
 
--- "waiting, its hash state is in order with total below the length; decided, its hash state is fresh". "Any other status counts as listed and not in order."
+-- "waiting, its hash state is in order with total below the length; decided, its hash state is fresh". "Any other status counts as listed
+-- and not in order."
 unfoldable pub stateInOrder : Slot → Bool
 stateInOrder s =
     cond (eqb (s .status) waiting) (inOrder (s .state) && ltb (s .state .total) (s .sample .length))
@@ -40,7 +41,7 @@ bytesTaken s = cond (eqb (s .status) waiting) (s .state .total) (s .sample .leng
 
 -- "the sheet reader gives such a slot record zero and a fresh state"
 unfoldable pub emptySlot : Slot
-emptySlot = record { sample = zeroRecord; state = fresh; status = absent }
+emptySlot = record { sample = zeroRecord; state = fresh; status = none }
 
 -- "each waiting, with its own line's record and a fresh state"
 unfoldable pub waitingSlot : Record → Slot

@@ -21,7 +21,7 @@ pub struct Slot {
 // What a delivery and asking answer, but for the session.
 #[repr(C)]
 pub struct Answer {
-    pub no: u8,
+    pub number: u8,
     pub status: u8,
     pub taken: u64,
 }
@@ -33,7 +33,7 @@ pub struct Step {
 }
 
 // A slot's status. Any other is listed and not in order.
-pub const ABSENT: u8 = 0;
+pub const NONE: u8 = 0;
 
 pub const WAITING: u8 = 1;
 
@@ -64,7 +64,7 @@ fn state_in_order(s: Slot) -> bool
     false
 }
 
-fn slot_in_order(s: Slot) -> bool
+pub fn slot_in_order(s: Slot) -> bool
     ensures { λ r. ⌜ r ≡ slotInOrder s ⌝ }
 {
     let sample = s.sample;
@@ -94,7 +94,7 @@ pub fn empty_slot() -> Slot
     Slot {
         sample,
         state,
-        status: ABSENT,
+        status: NONE,
     }
 }
 
@@ -115,8 +115,8 @@ fn bare_refusal(number: u8) -> Answer
     ensures { λ r. ⌜ r ≡ bareRefusal number ⌝ }
 {
     Answer {
-        no: number,
-        status: ABSENT,
+        number,
+        status: NONE,
         taken: 0,
     }
 }
@@ -126,7 +126,7 @@ fn as_it_stands(number: u8, s: Slot) -> Answer
 {
     let taken = bytes_taken(s);
     Answer {
-        no: number,
+        number,
         status: s.status,
         taken,
     }
@@ -138,6 +138,7 @@ fn decided_slot(s: Slot, h: Hash) -> Slot
 {
     let sample = s.sample;
     let digest = sample.digest;
+    // No refusal: h came of an accepted update, so it is in order, and a record's digest has 32 bytes.
     let compared = h.matches(&digest);
     let state = Hash::fresh();
     let status = if compared.same { OPENED } else { SHUT };
@@ -154,6 +155,7 @@ fn with_piece(s: Slot, piece: &[u8]) -> Slot
 {
     let sample = s.sample;
     let before = s.state;
+    // No refusal: a slot in order has a state in order, and the piece ends within the length, which is far below 2^61.
     let updated = before.update(piece);
     let state = updated.state;
     if state.total < sample.length as u64 {
@@ -209,7 +211,7 @@ fn is_listed(s: Slot, note: u64) -> bool
     ensures { λ r. ⌜ r ≡ isListed s note ⌝ }
 {
     let status = s.status;
-    rules::is_note(note) && status != ABSENT
+    rules::is_note(note) && status != NONE
 }
 
 // A delivery to the slot at a note's place.

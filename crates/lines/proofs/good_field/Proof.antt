@@ -1,12 +1,13 @@
--- `good_field` makes the record of its name. Assumes nothing.
-use mathlib.Core.Path.{refl}
-use Rattle.lines.specs.Reading.{goodField}
+-- `good_field` is the definition's. Assumes nothing.
+use mathlib.Core.Path.{ap}
+use borrow.Author.Needs.{needs}
+use Rattle.lines.specs.declared.Stop.{Stop}
+use Rattle.lines.specs.declared.Field.{Field}
 use Rattle.lines.proofs.good_field.Statement.{statement}
 use Rattle.lines.proofs.good_field.Tie as tie
 
 returns : tie.Need-returns
-unfolding goodField
-returns c = refl
+returns c = rw (c .good-stop .ensures)
 
 pub good-field-spec : {M : Type 1} → statement M
-good-field-spec = tie.close (tie.spec returns)
+good-field-spec = tie.close (tie.spec (λ c κs. search needs) returns)

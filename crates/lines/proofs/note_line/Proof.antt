@@ -1,41 +1,52 @@
--- `note_line` reads a note line. Assumes nothing.
-use mathlib.Core.Path.{_∙_}
-use Rattle.lines.specs.Reading.{goodLine}
-use Rattle.lines.proofs.Lines.{no-note, no-length, no-start, no-end, no-digest, no-close, whole-line}
+-- `note_line` reads a note line, step by step. Assumes nothing.
+use mathlib.Core.Path.{sym, _∙_}
 use borrow.Author.Needs.{needs}
+use borrow.Author.Tests.{not-true, not-false}
+use denote.Ref.{now}
+use Rattle.lines.specs.Promises.{NoteSteps}
+use Rattle.lines.proofs.Whole.{line-bad, line-good}
 use Rattle.lines.proofs.note_line.Statement.{statement}
 use Rattle.lines.proofs.note_line.Tie as tie
 
+-- the start, and what is known behind the last step
+abbrev start : tie.After-mark-after → tie.Start
+start c =
+    let first = c .before .before .before .before .before in
+    first .before .before .before
+
+abbrev steps : (c : tie.After-mark-after) → NoteSteps (now (start c .args .text)) (start c .args .at)
+steps c =
+    let digest = c .before in
+    let end = digest .before in
+    let start = end .before in
+    let size = start .before in
+    let note = size .before in
+    record {
+      begin = note .before .good-stop .result;
+      note = note .field-after .result;
+      size = size .field-after2 .result;
+      start = start .field-after3 .result;
+      end = end .field-after4 .result;
+      digest = digest .digest-after .result;
+      close = c .mark-after .result;
+      begins = note .before .good-stop .ensures;
+      reads-note = note .field-after .ensures;
+      reads-size = size .field-after2 .ensures;
+      reads-start = start .field-after3 .ensures;
+      reads-end = end .field-after4 .ensures;
+      reads-digest = digest .digest-after .ensures;
+      closes = c .mark-after .ensures;
+    }
+
 returns : tie.Need-returns
-returns c = c .line-fault .ensures ∙ no-note _ _ _ (c .before .before .before .field-at .ensures) (c .before .if1 .taken)
+returns c =
+    let good = c .before .before in
+    c .line-fault .ensures ∙ line-bad _ _ (steps (good .before)) (sym (good .is-good .ensures) ∙ not-true _ (c .before .if1 .taken))
 
 returns-2 : tie.Need-returns-2
-returns-2 c = c .line-fault2 .ensures ∙ no-length _ _ _ (c .before .before .before .before .before .before .field-at .ensures) (c .before .before .before .before .if1 .left) _ (c .before .before .before .field-at2 .ensures) (c .before .if2 .taken)
-
-returns-3 : tie.Need-returns-3
-returns-3 c =
-    c .line-fault3 .ensures
-    ∙ no-start _ _ _ (c .before .before .before .before .before .before .before .before .before .field-at .ensures) (c .before .before .before .before .before .before .before .if1 .left) _ (c .before .before .before .before .before .before .field-at2 .ensures) (c .before .before .before .before .if2 .left) _ (c .before .before .before .field-at3 .ensures) (c .before .if3 .taken)
-
-returns-4 : tie.Need-returns-4
-returns-4 c =
-    c .line-fault4 .ensures
-    ∙ no-end _ _ _ (c .before .before .before .before .before .before .before .before .before .before .before .before .field-at .ensures) (c .before .before .before .before .before .before .before .before .before .before .if1 .left) _ (c .before .before .before .before .before .before .before .before .before .field-at2 .ensures) (c .before .before .before .before .before .before .before .if2 .left) _ (c .before .before .before .before .before .before .field-at3 .ensures) (c .before .before .before .before .if3 .left) _ (c .before .before .before .field-at4 .ensures) (c .before .if4 .taken)
-
-returns-5 : tie.Need-returns-5
-returns-5 c =
-    c .line-fault5 .ensures
-    ∙ no-digest _ _ _ (c .before .before .before .before .before .before .before .before .before .before .before .before .before .before .before .field-at .ensures) (c .before .before .before .before .before .before .before .before .before .before .before .before .before .if1 .left) _ (c .before .before .before .before .before .before .before .before .before .before .before .before .field-at2 .ensures) (c .before .before .before .before .before .before .before .before .before .before .if2 .left) _ (c .before .before .before .before .before .before .before .before .before .field-at3 .ensures) (c .before .before .before .before .before .before .before .if3 .left) _ (c .before .before .before .before .before .before .field-at4 .ensures) (c .before .before .before .before .if4 .left) _ (c .before .before .before .digest-at .ensures) (c .before .if5 .taken)
-
-returns-6 : tie.Need-returns-6
-returns-6 c =
-    c .line-fault6 .ensures
-    ∙ no-close _ _ _ (c .before .before .before .before .before .before .before .before .before .before .before .before .before .before .before .before .before .before .field-at .ensures) (c .before .before .before .before .before .before .before .before .before .before .before .before .before .before .before .before .if1 .left) _ (c .before .before .before .before .before .before .before .before .before .before .before .before .before .before .before .field-at2 .ensures) (c .before .before .before .before .before .before .before .before .before .before .before .before .before .if2 .left) _ (c .before .before .before .before .before .before .before .before .before .before .before .before .field-at3 .ensures) (c .before .before .before .before .before .before .before .before .before .before .if3 .left) _ (c .before .before .before .before .before .before .before .before .before .field-at4 .ensures) (c .before .before .before .before .before .before .before .if4 .left) _ (c .before .before .before .before .before .before .digest-at .ensures) (c .before .before .before .before .if5 .left) _ (c .before .before .before .mark-at .ensures) (c .before .if6 .taken)
-
-returns-7 : tie.Need-returns-7
-unfolding goodLine
-returns-7 c =
-    whole-line _ _ _ (c .before .before .before .before .before .before .before .before .before .before .before .before .before .before .before .before .before .before .field-at .ensures) (c .before .before .before .before .before .before .before .before .before .before .before .before .before .before .before .before .if1 .left) _ (c .before .before .before .before .before .before .before .before .before .before .before .before .before .before .before .field-at2 .ensures) (c .before .before .before .before .before .before .before .before .before .before .before .before .before .if2 .left) _ (c .before .before .before .before .before .before .before .before .before .before .before .before .field-at3 .ensures) (c .before .before .before .before .before .before .before .before .before .before .if3 .left) _ (c .before .before .before .before .before .before .before .before .before .field-at4 .ensures) (c .before .before .before .before .before .before .before .if4 .left) _ (c .before .before .before .before .before .before .digest-at .ensures) (c .before .before .before .before .if5 .left) _ (c .before .before .before .mark-at .ensures) (c .before .if6 .left)
+returns-2 c =
+    let good = c .before .before in
+    line-good _ _ (steps (good .before)) (sym (good .is-good .ensures) ∙ not-false _ (c .before .if1 .left))
 
 pub note-line-spec : {M : Type 1} → statement M
 note-line-spec =
@@ -43,20 +54,12 @@ note-line-spec =
     (tie.spec
     (λ c κs. search needs)
     (λ c κs. search needs)
+    (λ c κs. search needs)
+    (λ c κs. search needs)
+    (λ c κs. search needs)
+    (λ c κs. search needs)
+    (λ c κs. search needs)
+    (λ c κs. search needs)
+    (λ c κs. search needs)
     returns
-    (λ c κs. search needs)
-    (λ c κs. search needs)
-    returns-2
-    (λ c κs. search needs)
-    (λ c κs. search needs)
-    returns-3
-    (λ c κs. search needs)
-    (λ c κs. search needs)
-    returns-4
-    (λ c κs. search needs)
-    (λ c κs. search needs)
-    returns-5
-    (λ c κs. search needs)
-    (λ c κs. search needs)
-    returns-6
-    returns-7)
+    returns-2)

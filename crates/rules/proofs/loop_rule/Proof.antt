@@ -9,12 +9,14 @@ use Rattle.rules.proofs.loop_rule.Tie as tie
 returns : tie.Need-returns
 unfolding loopRule
 returns c =
-    let at = c .before .before .args in
-    simp (lt-ltb _ _ (c .if1 .taken), whole-frames (at .bytes) (c .before .frames .result) (c .before .frames .ensures))
+    let test = c .before .before in
+    let frames = test .before .before .before in
+    let args = frames .before .before .before .args in
+    simp (lt-ltb _ _ (test .if1 .taken), whole-frames (args .length .0) (frames .frames .result) (frames .frames .ensures))
 
 returns-2 : tie.Need-returns-2
 unfolding loopRule
 returns-2 c = simp (le-ltb _ _ (c .if1 .left))
 
 pub loop-rule-spec : {M : Type 1} → statement M
-loop-rule-spec = tie.close (tie.spec (λ c. search needs) (λ c. search needs) (λ c κs. search needs) returns returns-2)
+loop-rule-spec = tie.close (tie.spec (λ c. search needs) (λ c κs. search needs) returns returns-2)

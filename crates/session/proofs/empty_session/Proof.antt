@@ -1,6 +1,6 @@
 -- `empty_session` is 32 slots of no note. Assumes nothing.
 use borrow.Author.Needs.{needs}
-use Rattle.session.specs.Deliver.{emptySession}
+use Rattle.session.specs.Sessions.{emptySession}
 use Rattle.session.proofs.empty_session.Statement.{statement}
 use Rattle.session.proofs.empty_session.Tie as tie
 

@@ -3,7 +3,7 @@
 use Prim.Native.Nat.{_≤_, _<_, _-_}
 use mathlib.Core.Path.{_≡_, sym, _∙_}
 use native.Mathlib.Omega.{arith}
-use Rattle.session.specs.Deliver.{emptySession}
+use Rattle.session.specs.Sessions.{emptySession}
 use Rattle.sheet.specs.Judging.{entriesAt, withNotes}
 use Rattle.sheet.proofs.Filling.{lists-first, lists-one, lists-all, listing-lt}
 use borrow.Author.Needs.{needs}

@@ -10,41 +10,58 @@ use Rattle.sheet.proofs.judged.Statement.{statement}
 use Rattle.sheet.proofs.judged.Tie as tie
 
 abbrev Inv-loop : tie.InvT-loop
-Inv-loop text first count at₀ last₀ i₀ at last i = (i ≤ count) × (judged text ≡ judgedNotes (count - i) text at (i + 2) last)
+Inv-loop text at first count next₀ last₀ i₀ next last i = (i ≤ count) × (judged text at ≡ judgedNotes (count - i) text next (i + 2) last)
 
 abbrev μ-loop : tie.MeasureT-loop
-μ-loop text first count at₀ last₀ i₀ at last i = count - i
+μ-loop text at first count next₀ last₀ i₀ next last i = count - i
 
 returns : tie.Need-returns Inv-loop μ-loop
-returns c = c .verdict-at .ensures ∙ header-decides _ _ _ (c .before .before .before .header-line .ensures) (c .before .before .header-number .ensures) (c .before .if1 .taken)
+returns c =
+    let number = c .before .before in
+    c .verdict-at .ensures ∙ header-decides _ _ _ _ (number .before .header-at .ensures) (number .header-number .ensures) (c .before .if1 .taken)
 
 loop-holds : tie.Need-loop-holds Inv-loop μ-loop
-loop-holds c = (search needs, none-yet _ _ _ (c .before .before .header-line .ensures) (c .before .header-number .ensures) (c .if1 .left))
+loop-holds c =
+    let number = c .before .before in
+    (search needs, none-yet _ _ _ _ (number .before .header-at .ensures) (number .header-number .ensures) (c .before .if1 .left))
 
 add-verdict-at : tie.Need-add-verdict-at Inv-loop μ-loop
-add-verdict-at c = omega (arith, most-notes _ _ (c .before .before .before .before .before .before .header-number .ensures) (c .before .before .before .before .before .if1 .left))
+add-verdict-at c =
+    let loop = c .before .before .before .before in
+    let first = loop .before .before in
+    omega (arith, most-notes _ _ (first .before .header-number .ensures) (first .if1 .left))
 
 returns-2 : tie.Need-returns-2 Inv-loop μ-loop
 returns-2 c =
+    let number = c .before .before in
+    let test = number .before .before in
     c .verdict-at2 .ensures
-    ∙ sym (c .before .before .before .before .before .loop .inv .1
-    ∙ this-of-many _ _ _ _ _ (c .before .before .before .before .loop-test .taken) _ (c .before .before .before .note-line .ensures) _ (c .before .before .note-number .ensures) (c .before .if2 .taken))
+    ∙ sym (test .before .loop .inv .1
+    ∙ this-of-many _ _ _ _ _ (test .loop-test .taken) _ (number .before .note-line .ensures) _ (number .note-number .ensures) (c .before .if2 .taken))
 
 loop-again : tie.Need-loop-again Inv-loop μ-loop
-loop-again c = (
-  search needs,
-  c .before .before .before .before .before .loop .inv .1
-      ∙ rest-of-many _ _ _ _ _ (c .before .before .before .before .loop-test .taken) _ (c .before .before .before .note-line .ensures) _ (c .before .before .note-number .ensures) (c .before .if2 .left),
-)
+loop-again c =
+    let number = c .before .before .before in
+    let test = number .before .before in (
+      search needs,
+      test .before .loop .inv .1
+          ∙ rest-of-many _ _ _ _ _ (test .loop-test .taken) _ (number .before .note-line .ensures) _ (number .note-number .ensures) (c .before .before .if2 .left),
+    )
 
 add-verdict-at-2 : tie.Need-add-verdict-at-2 Inv-loop μ-loop
-add-verdict-at-2 c = omega (arith, most-notes _ _ (c .before .before .before .before .header-number .ensures) (c .before .before .before .if1 .left))
+add-verdict-at-2 c =
+    let first = c .before .before .before .before in
+    omega (arith, most-notes _ _ (first .before .header-number .ensures) (first .if1 .left))
 
 returns-3 : tie.Need-returns-3 Inv-loop μ-loop
-returns-3 c = c .verdict-at3 .ensures ∙ sym (c .before .before .before .loop .inv .1 ∙ text-after-all _ _ _ _ _ (c .before .before .loop-test .left) (c .before .if3 .taken))
+returns-3 c =
+    let test = c .before .before in
+    c .verdict-at3 .ensures ∙ sym (test .before .loop .inv .1 ∙ text-after-all _ _ _ _ _ (test .loop-test .left) (c .before .if3 .taken))
 
 returns-4 : tie.Need-returns-4 Inv-loop μ-loop
-returns-4 c = c .verdict-at4 .ensures ∙ sym (c .before .before .before .loop .inv .1 ∙ end-after-all _ _ _ _ _ (c .before .before .loop-test .left) (c .before .if3 .left))
+returns-4 c =
+    let test = c .before .before in
+    c .verdict-at4 .ensures ∙ sym (test .before .loop .inv .1 ∙ end-after-all _ _ _ _ _ (test .loop-test .left) (c .before .if3 .left))
 
 pub judged-spec : {M : Type 1} → statement M
 judged-spec =

@@ -1,13 +1,14 @@
 -- `read` judges the lines and fills the session from them. Assumes nothing.
-use Rattle.sheet.specs.Judging.{sheetIs}
-use Rattle.sheet.proofs.Filling.{sheet-session}
 use borrow.Author.Needs.{needs}
+use Rattle.sheet.proofs.Filling.{sheet-session}
 use Rattle.sheet.proofs.read.Statement.{statement}
 use Rattle.sheet.proofs.read.Tie as tie
 
 returns : tie.Need-returns
-unfolding sheetIs
-returns c = sheet-session _ _ _ _ (c .before .before .judged .ensures) (c .before .start-of .ensures) (c .filled .ensures)
+returns c =
+    let start = c .before in
+    let header = start .before in
+    sheet-session _ _ _ _ _ (header .before .judged .ensures) (header .header-at .ensures) (start .start-of .ensures) (c .filled .ensures)
 
 pub read-spec : {M : Type 1} → statement M
-read-spec = tie.close (tie.spec (λ c κs. search needs) (λ c κs. search needs) (λ c κs. search needs) returns)
+read-spec = tie.close (tie.spec (λ c κs. search needs) (λ c κs. search needs) (λ c κs. search needs) (λ c κs. search needs) returns)

@@ -3,20 +3,20 @@ use borrow.Author.Needs.{needs}
 use mathlib.Core.Path.{_≡_}
 use lib.ListN.{length}
 use Rattle.slots.specs.Delivery.{deliverAt}
-use Rattle.session.specs.Deliver.{deliver}
+use Rattle.session.specs.Operations.{deliver}
 use Rattle.session.proofs.Lists.{length-of-image}
-use Rattle.session.proofs.Places.{place-lt, put-back}
+use Rattle.session.proofs.Putting.{index-lt, put-there}
 use Rattle.session.proofs.Session.deliver.Statement.{statement}
 use Rattle.session.proofs.Session.deliver.Tie as tie
 
 copy : tie.Need-element-copy-out-slot
-copy c = rw (c .place-of .ensures) (place-lt _)
+copy c = rw (c .slot-index .ensures) (index-lt _)
 
 mul-slot : tie.Need-mul-slot
 mul-slot c = let low = copy c in search needs
 
 set-from : tie.Need-element-set-from-after
-set-from c = rw (c .before .before .before .before .place-of .ensures) (place-lt _)
+set-from c = rw (c .before .before .before .before .slot-index .ensures) (index-lt _)
 
 mul-after : tie.Need-mul-after
 mul-after c = let low = set-from c in search needs
@@ -24,10 +24,10 @@ mul-after c = let low = set-from c in search needs
 returns : tie.Need-returns
 unfolding deliver deliverAt
 returns c =
-    let placed = c .before .before .before .before in
-    let start = placed .before .before in
+    let indexed = c .before .before .before .before in
+    let start = indexed .before .before in
     let all : length (start .args .t1 .slots) ≡ 32 = search (needs, length-of-image, start .good) in
-    put-back _ _ all _ _ (placed .place-of .ensures) _ _ (c .before .before .deliver-at .ensures)
+    put-there _ _ all _ _ (indexed .slot-index .ensures) _ _ (c .before .before .deliver-at .ensures)
 
 pub deliver-spec : {M : Type 1} → statement M
 deliver-spec = tie.close (tie.spec (λ c κs. search needs) mul-slot copy (λ c κs. search needs) mul-after set-from returns)

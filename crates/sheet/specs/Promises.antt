@@ -1,0 +1,63 @@
+-- What the sheet's steps promise, one by one. What they promise of whole texts is in the crate `sheet_promises`.
+use Prim.Native.Nat.{ℕ}
+use mathlib.Core.Path.{_≡_}
+use mathlib.Core.List.{List}
+use mathlib.Core.Bool.{true, false}
+use lib.ListN.{replicate}
+use Rattle.refusal.specs.Table.{accepted, form, countOrNote, badLength, badLoop}
+use Rattle.rules.specs.Rules.{countRule, noteRule, goodLength, goodLoop}
+use Rattle.standard.specs.Standard.{IV}
+use Rattle.session.specs.Sessions.{slotIndex}
+use Rattle.lines.specs.Lines.{noteLine, headerLine}
+use Rattle.lines.specs.declared.Field.{Field}
+use Rattle.lines.specs.declared.Entry.{Entry}
+use Rattle.lines.specs.declared.NoteLine.{NoteLine}
+use Rattle.sheet.specs.Judging.{headerAt, headerNumber, entryNumber, noteNumber}
+use Rattle.sheet.specs.Filling.{listing, start}
+use Rattle.sheet.specs.declared.Verdict.{Verdict}
+
+-- line 1: form, then the count
+pub record OfHeader (h : Field) : Type 0 where
+  pub ill-formed : (h .stop .wanted ≡ 0 → ⊥) → headerNumber h ≡ form
+  pub bad-count : h .stop .wanted ≡ 0 → countRule (h .value) ≡ false → headerNumber h ≡ countOrNote
+  pub good : h .stop .wanted ≡ 0 → countRule (h .value) ≡ true → headerNumber h ≡ accepted
+
+-- a well-formed note line: the note, then the length, then the loop
+pub record OfEntry (last : ℕ) (e : Entry) : Type 0 where
+  pub bad-note : noteRule last (e .note) ≡ false → entryNumber last e ≡ countOrNote
+  pub bad-length : noteRule last (e .note) ≡ true → goodLength (e .sample) ≡ false → entryNumber last e ≡ badLength
+  pub bad-loop :
+      noteRule last (e .note) ≡ true → goodLength (e .sample) ≡ true → goodLoop (e .sample) ≡ false
+      → entryNumber last e ≡ badLoop
+  pub good :
+      noteRule last (e .note) ≡ true → goodLength (e .sample) ≡ true → goodLoop (e .sample) ≡ true
+      → entryNumber last e ≡ accepted
+
+-- a note line: form first
+pub record OfLine (last : ℕ) (l : NoteLine) : Type 0 where
+  pub ill-formed : (l .stop .wanted ≡ 0 → ⊥) → noteNumber last l ≡ form
+  pub well-formed : l .stop .wanted ≡ 0 → noteNumber last l ≡ entryNumber last (l .entry)
+
+pub record Promises : Type 0 where
+  -- "Line 1: `RANK`, `1`": the figure 1
+  pub header-at : (text : List ℕ) (at : ℕ) → headerAt text at ≡ headerLine text at 0x31
+  -- "Within a line: form (1); then count or note (2); length (3); loop (4)"
+  pub of-header : (h : Field) → OfHeader h
+  pub of-entry : (last : ℕ) (e : Entry) → OfEntry last e
+  pub of-line : (last : ℕ) (l : NoteLine) → OfLine last l
+  -- the note lines begin behind the header, and a refused sheet has none
+  pub starts : (h : Field) (v : Verdict) → v .number ≡ accepted → start h v ≡ record { at = h .stop .at; notes = h .value }
+  pub starts-none : (h : Field) (v : Verdict) → (v .number ≡ accepted → ⊥) → start h v ≡ record { at = h .stop .at; notes = 0 }
+  -- "each waiting, with its own line's record and a fresh state", in its note's slot
+  pub listed :
+      (text : List ℕ) (at : ℕ)
+      → listing text at
+      ≡ record {
+        index = slotIndex (noteLine text at .entry .note);
+        slot = record {
+          sample = noteLine text at .entry .sample;
+          state = record { words = IV; total = 0; tail = replicate 64 0 };
+          status = 1;
+        };
+        next = noteLine text at .stop .at;
+      }
