@@ -8,32 +8,37 @@ use lib.ListN.{length, length-append}
 use borrow.Author.Tests.{ltb-true, ltb-false, leb-true, leb-false}
 use Rattle.refusal.specs.Table.{accepted}
 use Rattle.slots.specs.Delivery.{asItStands, deliverTo}
-use Rattle.session.specs.Deliver.{deliver}
+use Rattle.session.specs.Operations.{Operation, delivery, noteOf, doing, perform}
 use Rattle.slots.specs.Delivery.{isListed, onSlot}
 use Rattle.slots.proofs.Listed.{at-listed}
 use Rattle.rules.specs.declared.Record.{Record}
 use Rattle.slots.specs.declared.Slot.{Slot}
 use Rattle.slots.specs.declared.Step.{Step}
 use Rattle.session.specs.declared.Session.{Session}
-use Rattle.promises.specs.Deliveries.{Delivery, after, addedBytes, acceptedBytes}
+use Rattle.promises.specs.Sequences.{after, pieceOf, addedBytes, acceptedBytes}
 use Rattle.promises.proofs.LineRecord.{LineRecord}
 use Rattle.promises.proofs.OneNote.{view, is-listed}
-use Rattle.promises.proofs.Reordering.{does, does-deliver, own-step, other-step}
-use Rattle.promises.proofs.Reached.{reached, takes, runs-past, after-decided, not-absent}
+use Rattle.promises.proofs.Reordering.{own-step, other-step}
+use Rattle.promises.proofs.Reached.{reached, takes, runs-past, after-decided, not-none}
 
 -- the piece where the answer is 0, and nothing else
 gained : Step → List ℕ → List ℕ
-gained step p = cond (eqb (step .answer .no) accepted) p []
+gained step p = cond (eqb (step .answer .number) accepted) p []
 
--- what a delivery adds: to its own note the piece where the answer is 0, to another nothing
-module _ (note : ℕ) (s : Session) (d : Delivery) where
-  added-own : eqb (d .note) note ≡ true → addedBytes note s d ≡ cond (eqb (deliver s (d .note) (d .piece) .answer .no) accepted) (d .piece) []
+-- what an operation adds: to its own note the piece where the answer is 0, to another nothing
+module _ (note : ℕ) (s : Session) (o : Operation) where
+  added-own : eqb (noteOf o) note ≡ true → addedBytes note s o ≡ cond (eqb (perform s o .answer .number) accepted) (pieceOf o) []
   unfolding addedBytes
-  added-own e = ap (λ (t : Bool). cond (t && eqb (deliver s (d .note) (d .piece) .answer .no) accepted) (d .piece) []) e
+  added-own e = ap (λ (t : Bool). cond (t && eqb (perform s o .answer .number) accepted) (pieceOf o) []) e
 
-  added-other : eqb (d .note) note ≡ false → addedBytes note s d ≡ []
+  added-other : eqb (noteOf o) note ≡ false → addedBytes note s o ≡ []
   unfolding addedBytes
-  added-other e = ap (λ (t : Bool). cond (t && eqb (deliver s (d .note) (d .piece) .answer .no) accepted) (d .piece) []) e
+  added-other e = ap (λ (t : Bool). cond (t && eqb (perform s o .answer .number) accepted) (pieceOf o) []) e
+
+-- all that is done is a delivery of its piece
+is-delivery : (o : Operation) (slot : Slot) → doing o slot ≡ deliverTo slot (pieceOf o)
+unfolding doing pieceOf
+is-delivery (delivery note piece) slot = refl
 
 -- a slot is the one that these bytes reach, and they are not past its length
 abbrev pub Reaches : Record → List ℕ → Slot → Type 0
@@ -57,25 +62,25 @@ module _ (r : Record) (line : LineRecord r) where
 
   module _ (note : ℕ) (low : 1 ≤ note) (high : note ≤ 32) where
     pub is-listed-reached : (b : List ℕ) → isListed (reached r b) note ≡ true
-    is-listed-reached b = is-listed (reached r b) note low high (not-absent r line b)
+    is-listed-reached b = is-listed (reached r b) note low high (not-none r line b)
 
-    one-delivery : (s : Session) (b : List ℕ) (d : Delivery) → Reaches r b (view s note)
-        → Reaches r (b ++ addedBytes note s d) (view (deliver s (d .note) (d .piece) .session) note)
+    one-operation : (s : Session) (b : List ℕ) (o : Operation) → Reaches r b (view s note)
+        → Reaches r (b ++ addedBytes note s o) (view (perform s o .session) note)
     unfolding gained
-    one-delivery s b d h = go (eqb (d .note) note) refl
+    one-operation s b o h = go (eqb (noteOf o) note) refl
       where
-        here : onSlot (view s note) note (does d) ≡ deliverTo (reached r b) (d .piece)
-        here = rw (h .0) (at-listed (reached r b) note (does d) (is-listed-reached b) ∙ does-deliver d (reached r b))
+        here : onSlot (view s note) note (doing o) ≡ deliverTo (reached r b) (pieceOf o)
+        here = rw (h .0) (at-listed (reached r b) note (doing o) (is-listed-reached b) ∙ is-delivery o (reached r b))
 
-        go : (t : Bool) → eqb (d .note) note ≡ t → Reaches r (b ++ addedBytes note s d) (view (deliver s (d .note) (d .piece) .session) note)
-        go true e = rw (added-own note s d e, own-step s note d e .0, own-step s note d e .1, here) (one-more b (d .piece) (h .1))
-        go false e = rw (added-other note s d e, other-step s note d e, append-nil b) h
+        go : (t : Bool) → eqb (noteOf o) note ≡ t → Reaches r (b ++ addedBytes note s o) (view (perform s o .session) note)
+        go true e = rw (added-own note s o e, own-step s note o e .0, own-step s note o e .1, here) (one-more b (pieceOf o) (h .1))
+        go false e = rw (added-other note s o e, other-step s note o e, append-nil b) h
 
-    -- any deliveries
-    pub grows : (s : Session) (b : List ℕ) (ds : List Delivery) → Reaches r b (view s note)
-        → Reaches r (b ++ acceptedBytes note s ds) (view (after s ds) note)
+    -- any operations
+    pub grows : (s : Session) (b : List ℕ) (os : List Operation) → Reaches r b (view s note)
+        → Reaches r (b ++ acceptedBytes note s os) (view (after s os) note)
     unfolding after acceptedBytes
     grows s b [] h = rw (append-nil b) h
-    grows s b (d ∷ ds) h =
-        let s₁ = deliver s (d .note) (d .piece) .session in
-        rw (← append-assoc b (addedBytes note s d) (acceptedBytes note s₁ ds)) (grows s₁ (b ++ addedBytes note s d) ds (one-delivery s b d h))
+    grows s b (o ∷ os) h =
+        let s₁ = perform s o .session in
+        rw (← append-assoc b (addedBytes note s o) (acceptedBytes note s₁ os)) (grows s₁ (b ++ addedBytes note s o) os (one-operation s b o h))

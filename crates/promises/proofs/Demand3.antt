@@ -8,21 +8,22 @@ use native.Mathlib.Omega.{arith}
 use lib.Dec.{leb}
 use lib.ListN.{length, length-append}
 use borrow.Author.Tests.{leb-true, leb-false}
-use Rattle.refusal.specs.Table.{accepted, unlisted, decided, past-length}
-use Rattle.same.specs.Same.{same}
-use Rattle.same.proofs.Same.{same-equal, equal-same, differ-same, same-differ}
+use Rattle.refusal.specs.Table.{accepted, unlisted, decided, pastLength}
+use Rattle.buffers.specs.Same.{same}
+use Rattle.buffers.proofs.Comparing.{same-equal, equal-same, differ-same, same-differ}
 use Rattle.hash.specs.Sm3.{sm3}
-use Rattle.slots.specs.Slots.{absent, waiting, opened, shut, emptySlot, waitingSlot}
+use Rattle.slots.specs.Slots.{none, waiting, opened, shut, emptySlot, waitingSlot}
 use Rattle.rules.proofs.Rules.{is-note-is}
 use Rattle.slots.specs.Delivery.{asItStands, deliverTo, onSlot}
-use Rattle.session.specs.Deliver.{slotOf, deliver, ask}
+use Rattle.session.specs.Sessions.{slotOf}
+use Rattle.session.specs.Operations.{Operation, deliver, ask}
 use Rattle.slots.proofs.Listed.{at-listed, ask-at-listed}
 use Rattle.rules.specs.declared.Record.{Record}
 use Rattle.slots.specs.declared.Slot.{Slot}
 use Rattle.slots.specs.declared.Answer.{Answer}
 use Rattle.session.specs.declared.Session.{Session}
 use Rattle.sheet.specs.Judging.{sheetOf}
-use Rattle.promises.specs.Deliveries.{Delivery, after, acceptedBytes}
+use Rattle.promises.specs.Sequences.{after, acceptedBytes}
 use Rattle.promises.specs.Demand3.{decidedStatus, Promised, Demand3}
 use Rattle.promises.proofs.LineRecord.{LineRecord, Lists, line-record, listed-there, not-there}
 use Rattle.promises.proofs.OneNote.{view, slotOf-view, asks, own, unchanged, parts}
@@ -72,7 +73,7 @@ module _ (r : Record) (line : LineRecord r) (note : ℕ) (low : 1 ≤ note) (hig
       refused number e = parts (answered ∙ rw e) (unchanged s note (λ slot. deliverTo slot p) (rw (here, e) (sym (h .0))))
 
     -- nothing more is accepted for a decided note
-    still : length b ≡ r .length → (later : List Delivery) → Reaches r b (view (after s later) note)
+    still : length b ≡ r .length → (later : List Operation) → Reaches r b (view (after s later) note)
     still e later = go (acceptedBytes note s later) (grows r line note low high s b later h)
       where
         go : (c : List ℕ) → Reaches r (b ++ c) (view (after s later) note) → Reaches r b (view (after s later) note)
@@ -80,17 +81,17 @@ module _ (r : Record) (line : LineRecord r) (note : ℕ) (low : 1 ≤ note) (hig
         go (x ∷ c) g = absurd (omega (arith, g .1, length-append b (x ∷ c)))
 
   module _ (s : Session) (b : List ℕ) (h : Reaches r b (view s note)) where
-    asks-decided : length b ≡ r .length → ask s note ≡ record { no = accepted; status = decidedStatus r b; taken = length b }
+    asks-decided : length b ≡ r .length → ask s note ≡ record { number = accepted; status = decidedStatus r b; taken = length b }
     asks-decided e = asked-is s b h ∙ stands-decided r line b accepted (omega arith) ∙ rw e
 
-    fits-in : length b < r .length → (p : List ℕ) → deliver s note p .answer .no ≡ accepted → length b + length p ≤ r .length
+    fits-in : length b < r .length → (p : List ℕ) → deliver s note p .answer .number ≡ accepted → length b + length p ≤ r .length
     unfolding asItStands
     fits-in w p a = go (leb (length b + length p) (r .length)) refl
       where
         go : (t : Bool) → leb (length b + length p) (r .length) ≡ t → length b + length p ≤ r .length
         go true f = leb-true _ _ f
         go false f =
-            let refused-8 : deliver s note p .answer .no ≡ past-length = rw (answered s b h p, runs-past r line b p w (leb-false _ _ f)) in
+            let refused-8 : deliver s note p .answer .number ≡ pastLength = rw (answered s b h p, runs-past r line b p w (leb-false _ _ f)) in
             absurd (omega arith)
 
     accepted-answer : length b < r .length → (p : List ℕ) → length b + length p ≤ r .length → deliver s note p .answer ≡ asItStands accepted (reached r (b ++ p))
@@ -108,9 +109,9 @@ module _ (r : Record) (line : LineRecord r) (note : ℕ) (low : 1 ≤ note) (hig
         record {
           within = h .1;
           waits = λ w. asked-is s b h ∙ stands-waiting r line b accepted w;
-          accepts = λ w p. (fits-in w p, λ l. ap (λ (x : Answer). x .no) (accepted-answer w p l));
+          accepts = λ w p. (fits-in w p, λ l. ap (λ (x : Answer). x .number) (accepted-answer w p l));
           answers = λ w p l. accepted-answer w p l ∙ sym (asked-is (deliver s note p .session) (b ++ p) (accepted-slot w p l));
-          refuses = λ w p l. refused s b h p past-length (runs-past r line b p w l) ∙ rw (stands-waiting r line b past-length w);
+          refuses = λ w p l. refused s b h p pastLength (runs-past r line b p w l) ∙ rw (stands-waiting r line b pastLength w);
           decides = asks-decided;
           keeps = ap (λ (x : Slot). x .sample) stands-there ∙ reached-line r b;
           leaves = λ e. ap (λ (x : Slot). x .state) stands-there ∙ reached-fresh r b (omega arith);
@@ -128,10 +129,10 @@ module _ (s : Session) (note : ℕ) (r : Record) (line : LineRecord r) (lists : 
   at-start : Reaches r [] (view s note)
   at-start = (sym (slotOf-view s note (is-note-is note .1 (lists .first, lists .last))) ∙ lists .slot ∙ sym (reached-nothing r line), omega arith)
 
-  from-start : (ds : List Delivery) → Promised (after s ds) note r (acceptedBytes note s ds)
-  from-start ds =
-      promised r line note (lists .first) (lists .last) (after s ds) (acceptedBytes note s ds)
-      (grows r line note (lists .first) (lists .last) s [] ds at-start)
+  from-start : (os : List Operation) → Promised (after s os) note r (acceptedBytes note s os)
+  from-start os =
+      promised r line note (lists .first) (lists .last) (after s os) (acceptedBytes note s os)
+      (grows r line note (lists .first) (lists .last) s [] os at-start)
 
 pub demand3 : Demand3
 demand3 =
@@ -140,5 +141,5 @@ demand3 =
           λ text es sheet e among.
           from-start (sheetOf text .session) (e .note) (e .sample) (line-record text es sheet e among) (listed-there text es sheet e among);
       others = λ text es sheet note none. unlisted-stays (sheetOf text .session) note (not-there text es sheet note none);
-      neverListed = unlisted-stays;
+      never-listed = unlisted-stays;
     }

@@ -5,7 +5,7 @@ use mathlib.Core.List.{List, [], _∷_}
 use mathlib.Core.Bool.{Bool, true, _&&_}
 use lib.Dec.{eqb}
 use borrow.Author.Tests.{eqb-true}
-use Rattle.same.proofs.Tests.{first, second}
+use Rattle.truth.proofs.Tests.{first, second}
 use Rattle.word.specs.Rotation.{_⊞_, _<<<_}
 use Rattle.word.specs.BigEndian.{bigEndian, numberFrom, numberOf}
 use Rattle.standard.specs.Standard.{T, FF, GG, P0, P1, split, nextWord, extended, expansion, W′, roundOn, round, rounds}

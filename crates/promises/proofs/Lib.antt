@@ -6,4 +6,4 @@ pub mod Reached
 pub mod Accepted
 pub mod Unlisted
 pub mod Demand3
-pub mod Kept
+pub mod Proved

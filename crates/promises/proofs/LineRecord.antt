@@ -1,5 +1,5 @@
 -- What demand 3 takes from a sheet: every note of its lines waits with a record that obeys the rules and has a digest of 32 bytes. Assumes nothing.
-use mathlib.Core.Path.{_≡_, ap}
+use mathlib.Core.Path.{_≡_, sym, ap, _∙_}
 use mathlib.Core.List.{List}
 use mathlib.Core.Logic.{_⊎_, inl, inr}
 use mathlib.Core.Bool.{true}
@@ -9,8 +9,8 @@ use native.Mathlib.Omega.{arith}
 use lib.ListN.{length}
 use Rattle.rules.specs.Rules.{obeys}
 use Rattle.rules.proofs.Rules.{note-rule-is}
-use Rattle.slots.specs.Slots.{emptySlot, waitingSlot}
-use Rattle.session.specs.Deliver.{slotOf}
+use Rattle.slots.specs.Slots.{waitingSlot}
+use Rattle.session.specs.Sessions.{slotOf}
 use Rattle.session.specs.Promises.{Unlisted}
 use Rattle.slots.specs.declared.Slot.{Slot}
 use Rattle.rules.specs.declared.Record.{Record}
@@ -20,7 +20,8 @@ use Rattle.lines.specs.declared.Entry.{Entry}
 use Rattle.sheet_promises.specs.Grammar.{ObeysRules, AllObey, entry, IsSheet}
 use Rattle.sheet_promises.specs.Promises.{Among, first, further}
 use Rattle.sheet_promises.proofs.Records.{rules-of, digest-of}
-use Rattle.sheet_promises.proofs.Kept.{kept}
+use Rattle.slots.proofs.Proved.{proved as slot}
+use Rattle.sheet_promises.proofs.Proved.{proved}
 
 -- a record that "obeys rules 3 and 4", with a digest of 32 bytes
 pub record LineRecord (r : Record) : Type 0 where
@@ -47,15 +48,14 @@ module _ (text : List ℕ) (es : List Entry) (sheet : IsSheet text es) where
     listed-there =
         let o = obeyed (sheet .obeyed) e among .1 in
         let number = note-rule-is _ (e .note) .0 (o .note-rule) in
-        record { first = number .0; last = number .1; slot = kept .lists text es sheet .listed e among }
+        record { first = number .0; last = number .1; slot = proved .lists text es sheet .listed e among ∙ sym (slot .begins (e .sample)) }
 
   pub not-there : (note : ℕ) → ((e : Entry) → Among e es → e .note ≡ note → ⊥) → Unlisted (sheetOf text .session) note
-  unfolding emptySlot
   not-there note none =
       elim (decLt 0 note) [
         | yes low ↦ elim (decLt 32 note) [
           | yes high ↦ inr (inl high)
-          | no most ↦ inr (inr (ap (λ (x : Slot). x .status) (kept .lists text es sheet .others note low (omega arith) none)))
+          | no most ↦ inr (inr (ap (λ (x : Slot). x .status) (proved .lists text es sheet .others note low (omega arith) none)))
         ]
         | no zero ↦ inl (omega arith)
       ]

@@ -6,16 +6,17 @@ use Prim.Native.Nat.{ℕ, zero, suc, _<_, _≤_}
 use native.Mathlib.Omega.{arith}
 use native.Mathlib.Decide.{decLt}
 use lib.Dec.{eqb}
-use lib.ListN.{length, getD, set, List·getD-eq-default, length-set}
+use lib.ListN.{length, getD, List·getD-eq-default, length-set}
 use lib.Seq.{getD-set-same, getD-set-other, ext-getD}
 use borrow.Author.Tests.{eqb-true, eqb-false}
 use Rattle.refusal.specs.Table.{unlisted}
-use Rattle.same.proofs.Tests.{second}
-use Rattle.slots.specs.Slots.{absent, emptySlot}
+use Rattle.truth.proofs.Tests.{second}
+use Rattle.slots.specs.Slots.{none, emptySlot}
 use Rattle.rules.specs.Rules.{isNote}
 use Rattle.rules.proofs.Rules.{is-note-is}
 use Rattle.slots.specs.Delivery.{bareRefusal, isListed, onSlot, askAt}
-use Rattle.session.specs.Deliver.{placeOf, slotOf, onNote, ask}
+use Rattle.session.specs.Sessions.{slotIndex, slotOf, putSlot}
+use Rattle.session.specs.Operations.{onNote, ask}
 use Rattle.slots.specs.declared.Slot.{Slot}
 use Rattle.slots.specs.declared.Step.{Step}
 use Rattle.slots.specs.declared.Answer.{Answer}
@@ -25,7 +26,7 @@ use Rattle.session.specs.Promises.{Unlisted}
 use Rattle.slots.proofs.Listed.{listed-note, no-note}
 use Rattle.session.proofs.Listed.{unlisted-is}
 use Rattle.slots.proofs.Listed.{at-listed, at-unlisted, ask-at-unlisted}
-use Rattle.session.proofs.Places.{place-of-note, on-listed, on-unlisted}
+use Rattle.session.proofs.Putting.{index-of-note, on-listed, on-unlisted}
 
 -- a note's slot; note 0 has an empty one
 pub view : Session → ℕ → Slot
@@ -36,7 +37,7 @@ pub slotOf-view : (s : Session) (note : ℕ) → isNote note ≡ true → slotOf
 unfolding slotOf view
 slotOf-view s zero h = let low = is-note-is 0 .0 h .0 in absurd (omega arith)
 slotOf-view s (suc i) h =
-    let place : placeOf (suc i) ≡ i = place-of-note (suc i) h ∙ omega arith in
+    let place : slotIndex (suc i) ≡ i = index-of-note (suc i) h ∙ omega arith in
     rw place
 
 pub isListed-view : (s : Session) (note : ℕ) → isListed (slotOf s note) note ≡ isListed (view s note) note
@@ -47,7 +48,7 @@ isListed-view s note = go (isNote note) refl
     go false h = no-note (slotOf s note) note h ∙ sym (no-note (view s note) note h)
 
 -- whether a slot says that its note is listed
-pub is-listed : (slot : Slot) (note : ℕ) → 1 ≤ note → note ≤ 32 → eqb (slot .status) absent ≡ false → isListed slot note ≡ true
+pub is-listed : (slot : Slot) (note : ℕ) → 1 ≤ note → note ≤ 32 → eqb (slot .status) none ≡ false → isListed slot note ≡ true
 unfolding isListed
 is-listed slot note l h a = rw (is-note-is note .1 (l, h), a)
 
@@ -70,11 +71,22 @@ module _ (s : Session) (f : Slot → Step) where
         ]
 
     done : onNote s (suc i) f
-        ≡ record { answer = f (view s (suc i)) .answer; session = record { slots = set (s .slots) i (f (view s (suc i)) .slot) } }
+        ≡ record { answer = f (view s (suc i)) .answer; session = putSlot s (suc i) (f (view s (suc i)) .slot) }
     done =
         let is = listed-note (view s (suc i)) (suc i) h in
-        let place : placeOf (suc i) ≡ i = place-of-note (suc i) is ∙ omega arith in
-        on-listed s (suc i) f (isListed-view s (suc i) ∙ h) ∙ rw (slotOf-view s (suc i) is, place)
+        on-listed s (suc i) f (isListed-view s (suc i) ∙ h) ∙ rw (slotOf-view s (suc i) is)
+
+    -- the slot that is put there is its own, and no other
+    index : slotIndex (suc i) ≡ i
+    index = index-of-note (suc i) (listed-note (view s (suc i)) (suc i) h) ∙ omega arith
+
+    view-own : (slot : Slot) → view (putSlot s (suc i) slot) (suc i) ≡ slot
+    unfolding view putSlot
+    view-own slot = rw index (getD-set-same (s .slots) i slot emptySlot placed)
+
+    view-other : (slot : Slot) (j : ℕ) → (j ≡ i → ⊥) → view (putSlot s (suc i) slot) (suc j) ≡ view s (suc j)
+    unfolding view putSlot
+    view-other slot j d = rw index (getD-set-other (s .slots) i j slot emptySlot d)
 
 -- what an operation answers, and what becomes of its own slot, by that slot alone
 abbrev Own : Session → ℕ → (Slot → Step) → Type 0
@@ -85,9 +97,7 @@ own-unlisted : (s : Session) (note : ℕ) (f : Slot → Step) → isListed (view
 own-unlisted s note f h = rw (nothing-done s f note h, at-unlisted (view s note) note f h) (refl, refl)
 
 own-by : (s : Session) (i : ℕ) (f : Slot → Step) (b : Bool) → isListed (view s (suc i)) (suc i) ≡ b → Own s (suc i) f
-unfolding view
-own-by s i f true h =
-    rw (done s f i h, at-listed (view s (suc i)) (suc i) f h) (refl, getD-set-same (s .slots) i _ emptySlot (placed s f i h))
+own-by s i f true h = rw (done s f i h, at-listed (view s (suc i)) (suc i) f h) (refl, view-own s f i h _)
 own-by s i f false h = own-unlisted s (suc i) f h
 
 pub own : (s : Session) (note : ℕ) (f : Slot → Step) → Own s note f
@@ -102,15 +112,15 @@ unfolding view
 other-by s note f b h zero d = refl
 other-by s note f false h (suc j) d = rw (nothing-done s f note h)
 other-by s zero f true h (suc j) d = let low = is-note-is 0 .0 (listed-note (view s 0) 0 h) .0 in absurd (omega arith)
-other-by s (suc i) f true h (suc j) d = rw (done s f i h) (getD-set-other (s .slots) i j _ emptySlot (λ e. d (ap suc e)))
+other-by s (suc i) f true h (suc j) d = rw (done s f i h) (view-other s f i h _ j (λ e. d (ap suc e)))
 
 pub other : (s : Session) (note : ℕ) (f : Slot → Step) (m : ℕ) → m ≢ note → view (onNote s note f .session) m ≡ view s m
 other s note f = other-by s note f _ refl
 
 -- and there are as many
 pub length-same : (s : Session) (note : ℕ) (f : Slot → Step) → length (onNote s note f .session .slots) ≡ length (s .slots)
-unfolding onNote
-length-same s note f = length-set (s .slots) (placeOf note) _
+unfolding onNote putSlot
+length-same s note f = length-set (s .slots) (slotIndex note) _
 
 -- asking goes by that slot too
 pub asks : (s : Session) (note : ℕ) → ask s note ≡ askAt (view s note) note

@@ -5,7 +5,7 @@ use mathlib.Core.Path.{_≡_}
 use mathlib.Core.List.{List, [], _∷_}
 use mathlib.Core.Bool.{cond}
 use lib.ListN.{getD}
-use Rattle.refusal.specs.Table.{accepted, bad-loop}
+use Rattle.refusal.specs.Table.{accepted, badLoop}
 use Rattle.standard.specs.declared.Words.{Words}
 use Rattle.standard.specs.Standard.{IV, P0, P1, expansion, W′, rounds}
 use Rattle.padding.specs.Padding.{padded, blockCount}
@@ -30,7 +30,7 @@ abcRound0 = rounds 1 IV abc
 
 -- a loop "with 32 frames", which are 64 bytes: its number, 0 where it is accepted
 unfoldable pub loopNumber : ℕ → ℕ → ℕ
-loopNumber start end = cond (loopRule 64 start end) accepted bad-loop
+loopNumber start end = cond (loopRule 64 start end) accepted badLoop
 
 abbrev pub examples : List Example
 examples =
@@ -49,8 +49,8 @@ examples =
     ∷ blockCount 64 is 2
     -- "with 32 frames, loop 0..32 is accepted, 0..33 and 32..32 refused"
     ∷ loopNumber 0 32 is accepted
-    ∷ loopNumber 0 33 is bad-loop
-    ∷ loopNumber 32 32 is bad-loop
+    ∷ loopNumber 0 33 is badLoop
+    ∷ loopNumber 32 32 is badLoop
     ∷ []
 
 -- every example of a list: what the definitions give is what is printed

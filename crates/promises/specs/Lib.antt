@@ -1,5 +1,5 @@
 pub mod Examples
-pub mod Deliveries
+pub mod Sequences
 pub mod Demand3
 pub mod Reordering
 pub mod Promises

@@ -1,0 +1,8 @@
+-- Every promise of specs/Promises.antt is proved.
+use Rattle.promises.specs.Promises.{Promises}
+use Rattle.promises.proofs.Examples.{examples-hold}
+use Rattle.promises.proofs.Demand3.{demand3}
+use Rattle.promises.proofs.Reordering.{reordering}
+
+pub proved : Promises
+proved = record { small-examples = examples-hold; demand3 = demand3; reordering = reordering }

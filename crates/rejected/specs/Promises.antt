@@ -1,0 +1,39 @@
+-- "These must be rejected" (document 01, "How tight the promises are"): each wrong program breaks the promise that 01 names for it.
+use Prim.Native.Nat.{ℕ, _≤_}
+use mathlib.Core.Path.{_≡_}
+use mathlib.Core.List.{List}
+use Rattle.hash.specs.Promises.{AnyCuttingOf}
+use Rattle.hash.specs.declared.Hash.{Hash}
+use Rattle.hash.specs.declared.Updated.{Updated}
+use Rattle.hash.specs.declared.Digest.{Digest}
+use Rattle.slots.specs.Promises.{OutcomeOf}
+use Rattle.slots.specs.declared.Slot.{Slot}
+use Rattle.session.specs.Operations.{ask}
+use Rattle.session.specs.Promises.{TakesOf, CountedOf}
+use Rattle.session.specs.declared.Session.{Session}
+use Rattle.session.specs.declared.Delivered.{Delivered}
+use Rattle.sheet.specs.Judging.{sheetOf}
+use Rattle.sheet.specs.declared.Sheet.{Sheet}
+use Rattle.sheet_promises.specs.Grammar.{IsSheet}
+use Rattle.sheet_promises.specs.Promises.{AcceptsOf, Lists}
+use Rattle.rejected.specs.Example.{text, notes}
+use Rattle.rejected.specs.Wrong.{RefusesSheets, RefusesPieces, constant, AlwaysShut, doesNothing, firstPieceOnly, invents}
+
+pub record Promises : Type 0 where
+  -- document 01's three-line sheet is a sheet, is accepted, and lists 5 and 9
+  pub is-sheet : IsSheet text notes
+  pub is-accepted : sheetOf text .verdict ≡ record { number = 0; line = 0 }
+  pub lists : Lists (sheetOf text .session) notes
+  pub waits-5 : ask (sheetOf text .session) 5 ≡ record { number = 0; status = 1; taken = 0 }
+  pub waits-9 : ask (sheetOf text .session) 9 ≡ record { number = 0; status = 1; taken = 0 }
+  -- "a loader that refuses everything (the table's "exactly when", demand 2)"
+  pub sheets : (reading : List ℕ → Sheet) → RefusesSheets reading → AcceptsOf reading → ⊥
+  pub pieces : (delivering : Session → (note : ℕ) (piece : List ℕ) → Delivered) → RefusesPieces delivering → TakesOf delivering → ⊥
+  -- "a digest that is constant", behind any update; "or a note that is always shut (demand 3 over demand 2's digest)"
+  pub digest : (updating : Hash → List ℕ → Updated) (d : Digest) → AnyCuttingOf updating (constant d) → ⊥
+  pub shut : (putting : Slot → List ℕ → Slot) → AlwaysShut putting → OutcomeOf putting → ⊥
+  -- "an update that does nothing, or one that keeps the first piece and ignores the rest (demand 2, any cutting)", before any final
+  pub nothing : (finishing : Hash → Digest) → AnyCuttingOf doesNothing finishing → ⊥
+  pub first-only : (finishing : Hash → Digest) → AnyCuttingOf firstPieceOnly finishing → ⊥
+  -- "a taken count that is invented (demand 3: it is the length of the accepted bytes)": wrong for some number of note 5's 64 bytes
+  pub count : (counting : ℕ → ℕ) (bytes : ℕ) → bytes ≤ 64 → (counting bytes ≡ bytes → ⊥) → CountedOf (invents counting) → ⊥
