@@ -1,8 +1,8 @@
 // The calls that work in place, on a state or a session that the host lends.
 ghost use mathlib.Core.Path.{_≡_};
 ghost use Rattle.hash.specs.Update.{update as updated};
-ghost use Rattle.session.specs.Deliver.{deliver as delivered, ask as asked};
-ghost use Rattle.sheet.specs.Judging.{judged, sheetOf};
+ghost use Rattle.session.specs.Operations.{deliver as delivered, ask as asked};
+ghost use Rattle.sheet.specs.Judging.{sheetOf};
 use hash::Hash;
 use session::Session;
 use sheet::Verdict;
@@ -11,17 +11,19 @@ use slots::Answer;
 // Folds a piece into a lent hash state, and answers the number.
 #[no_mangle]
 pub extern "C" fn vs_update_in_place(state: &mut Hash, piece: &[u8]) -> u8
-    ensures { λ r. ⌜ (r ≡ updated (now (state .entry)) (now (piece .entry)) .no) × (now (state .exit) ≡ updated (now (state .entry)) (now (piece .entry)) .state) ⌝ }
+    ensures { λ r. ⌜ (r ≡ updated (now (state .entry)) (now (piece .entry)) .number)
+        × (now (state .exit) ≡ updated (now (state .entry)) (now (piece .entry)) .state) ⌝ }
 {
-    lent::update(state, piece)
+    hash_in_place::update(state, piece)
 }
 
 // A delivery into a lent session.
 #[no_mangle]
 pub extern "C" fn vs_deliver_in_place(session: &mut Session, note: u64, piece: &[u8]) -> Answer
-    ensures { λ r. ⌜ (r ≡ delivered (now (session .entry)) note (now (piece .entry)) .answer) × (now (session .exit) ≡ delivered (now (session .entry)) note (now (piece .entry)) .session) ⌝ }
+    ensures { λ r. ⌜ (r ≡ delivered (now (session .entry)) note (now (piece .entry)) .answer)
+        × (now (session .exit) ≡ delivered (now (session .entry)) note (now (piece .entry)) .session) ⌝ }
 {
-    lent::deliver(session, note, piece)
+    session_in_place::deliver(session, note, piece)
 }
 
 // Asking through a lent session.
@@ -29,13 +31,13 @@ pub extern "C" fn vs_deliver_in_place(session: &mut Session, note: u64, piece: &
 pub extern "C" fn vs_ask_in_place(session: &Session, note: u64) -> Answer
     ensures { λ r. ⌜ r ≡ asked (now (session .entry)) note ⌝ }
 {
-    lent::ask(session, note)
+    session_in_place::ask(session, note)
 }
 
 // A rank sheet, read into a lent session.
 #[no_mangle]
 pub extern "C" fn vs_sheet_read_in_place(session: &mut Session, text: &[u8]) -> Verdict
-    ensures { λ r. ⌜ (r ≡ judged (now (text .entry))) × (now (session .exit) ≡ sheetOf (now (text .entry)) .session) ⌝ }
+    ensures { λ r. ⌜ (r ≡ sheetOf (now (text .entry)) .verdict) × (now (session .exit) ≡ sheetOf (now (text .entry)) .session) ⌝ }
 {
-    filling::read_into(session, text)
+    session_in_place::read_into(session, text)
 }

@@ -1,6 +1,11 @@
-// What a C host links (host/veenstipper.h). Nothing here decides anything: each function passes on, and its contract is that of what it passes on to.
+// What a C host links (host/veenstipper.h). Nothing here decides anything: each function passes on, and its contract is that of what it
+// passes on to.
 mod in_place;
 
+pub use in_place::vs_ask_in_place;
+pub use in_place::vs_deliver_in_place;
+pub use in_place::vs_sheet_read_in_place;
+pub use in_place::vs_update_in_place;
 ghost use mathlib.Core.Path.{_≡_};
 ghost use Rattle.standard.specs.Standard.{folded};
 ghost use Rattle.padding.specs.Writing.{written, bufferAfter};
@@ -9,14 +14,14 @@ ghost use Rattle.padded.specs.Removing.{removeNumber, removeLength};
 ghost use Rattle.hash.specs.State.{fresh};
 ghost use Rattle.hash.specs.Update.{update};
 ghost use Rattle.hash.specs.Digests.{finish, digest, compareMessage, compareState};
-ghost use Rattle.session.specs.Deliver.{deliver, ask};
+ghost use Rattle.session.specs.Operations.{deliver, ask};
 ghost use Rattle.sheet.specs.Judging.{sheetOf};
 use hash::Compared;
 use hash::Digest;
 use hash::Hash;
 use hash::Updated;
 use padded::Place;
-use padding::Written;
+use refusal::Written;
 use session::Delivered;
 use session::Session;
 use sheet::Sheet;
@@ -29,7 +34,7 @@ use standard::Words;
 pub extern "C" fn vs_fold(words: Words, bytes: &[u8]) -> Words
     ensures { λ r. ⌜ r ≡ folded words (now (bytes .entry)) ⌝ }
 {
-    sm3::fold(words, bytes)
+    folding::fold(words, bytes)
 }
 
 #[no_mangle]

@@ -1,3 +1,3 @@
 pub mod Structs
 pub mod Holding
-pub mod Lines
+pub mod Proved

@@ -9,7 +9,7 @@ use Rattle.walks.proofs.Words.{URA, w64, Val, vint, SProp, ent, emp, id⊢, Mem
 use Rattle.walks.proofs.Borrow.{machine, IsData, typed, gone}
 use Rattle.walks.proofs.Calls.{arrives, asks}
 use Rattle.walks.proofs.Ends.{ends, stands}
-use Rattle.lines.specs.Reading.{noteLine}
+use Rattle.lines.specs.Lines.{noteLine}
 use Rattle.lines.specs.declared.NoteLine.{NoteLine}
 use Rattle.lines.proofs.note_line as callee
 use Rattle.lines.proofs.note_line.Symbol as callee-def
@@ -32,7 +32,7 @@ stayed = (stay-none (λ κs. rowAt (namedLft 1 0 tt κs)) yes, tt)
 
 -- the reader past what was read, and the answer
 abbrev past : SheetReader → NoteLine → SheetReader
-past d l = record { text = d .text; at = l .at }
+past d l = record { text = d .text; at = l .stop .at }
 
 abbrev answer : SheetReader → NoteLine → LineRead
 answer d l = record { line = l; rest = past d l }
@@ -59,7 +59,7 @@ module _ {M : Type 1} (𝓤 : URA M) (H : Heap 𝓤) (A : Atoms 𝓤) (W : Given
   value l = LL.val (R.the-type α) (R′.the-laws α) (answer d l)
 
   is-answer : IsReader α d → (l : NoteLine) → IsData Line l → Is (R.the-row α) (answer d l) (value l ∷ [])
-  is-answer is l l-is = LL.owes (R.the-type α) (R′.the-laws α) (answer d l) (l-is, (is-moved α d (l .at) is (line-at-fits l l-is), tt))
+  is-answer is l l-is = LL.owes (R.the-type α) (R′.the-laws α) (answer d l) (l-is, (is-moved α d (l .stop .at) is (line-at-fits l l-is), tt))
 
   module _ (C : Calls 𝓤 H) (Λ : Loops 𝓤 H) (fm : FmC 𝓤 H (W .laws) C) (known : Triple 𝓤 (C #callee) Callee) where
     walk : IsReader α d → ent 𝓤 (onEntry 𝓤 H A next.signature κs qs (d, tt) vs) (WpFn 𝓤 H C Λ code.function (machineOf d ∷ []) (walkOf 𝓤 H A next.ended stayed (next.clauses 𝓤 H A mem run) .post y))
@@ -73,7 +73,7 @@ module _ {M : Type 1} (𝓤 : URA M) (H : Heap 𝓤) (A : Atoms 𝓤) (W : Given
         fm known (id⊢ 𝓤 (emp 𝓤)) (λ r ws. id⊢ 𝓤 _) (and-then ! (load ! (from ! (stop !)) (look ! 9 refl)) (and-then ! (load ! (from ! (stop !)) (look ! 7 refl)) (no-more !))) (λ l e l-is.
         -- [the token; what was read; text; the reader; _7; …; _0; …]
         land ! (from ! (stop !)) (init ! 14 refl (typed Line 𝓤 H A W l l-is)) $
-        assigns ! (of-opd ! (load ! (from ! (fld ! refl (stop !))) (look-in ! 14 (sub ! 1 refl (whole !))))) (from ! (stop !)) (init ! 12 refl (tt, record { fits = line-at-fits l l-is })) $
+        assigns ! (of-opd ! (load ! (from ! (fld ! refl (fld ! refl (stop !)))) (look-in ! 14 (sub ! 1 refl (sub ! 0 refl (whole !)))))) (from ! (stop !)) (init ! 12 refl (tt, record { fits = line-at-fits l l-is })) $
         assigns ! (of-opd ! (load ! (from ! (fld ! refl (stop !))) (look-in ! 16 (sub ! 0 refl (whole !))))) (from ! (stop !)) (init ! 6 refl (tt, reader-typed α 𝓤 H A W d is .1 .0)) $
         assigns ! (agg ! (and-then ! (load ! (from ! (stop !)) (look ! 6 refl)) (and-then ! (load ! (from ! (stop !)) (look ! 12 refl)) (no-more !)))) (from ! (stop !)) (init ! 4 refl (tt, (reader-typed α 𝓤 H A W d is .1 .0, (record { fits = line-at-fits l l-is }, tt)))) $
         assigns ! (agg ! (and-then ! (load ! (from ! (stop !)) (look ! 14 refl)) (and-then ! (load ! (from ! (stop !)) (look ! 4 refl)) (no-more !)))) (from ! (stop !)) (init ! 18 refl (LL.lawful (R.the-type α) (R′.the-laws α) 𝓤 H A W .typed (answer d l) (value l ∷ []) (is-answer is l l-is) .0)) $

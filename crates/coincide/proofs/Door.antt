@@ -1,0 +1,96 @@
+-- `door`: any two results that meet a contract coincide. Assumes nothing.
+use mathlib.Core.Path.{refl, sym, _∙_}
+use Prim.Native.Nat.{ℕ}
+use mathlib.Core.List.{List}
+use denote.Ref.{now}
+use Rattle.session.specs.declared.Session.{Session}
+use Rattle.hash.specs.declared.Hash.{Hash}
+use Rattle.coincide.specs.Coincide.{Coincide, CoincideAt, Says}
+use Rattle.door.proofs.vs_update_in_place as vs-update-in-place′
+use Rattle.door.proofs.vs_deliver_in_place as vs-deliver-in-place′
+use Rattle.door.proofs.vs_ask_in_place as vs-ask-in-place′
+use Rattle.door.proofs.vs_sheet_read_in_place as vs-sheet-read-in-place′
+use Rattle.door.proofs.vs_fold as vs-fold′
+use Rattle.door.proofs.vs_fresh as vs-fresh′
+use Rattle.door.proofs.vs_update as vs-update′
+use Rattle.door.proofs.vs_finish as vs-finish′
+use Rattle.door.proofs.vs_digest_of as vs-digest-of′
+use Rattle.door.proofs.vs_compare_message as vs-compare-message′
+use Rattle.door.proofs.vs_compare_state as vs-compare-state′
+use Rattle.door.proofs.vs_pad_write as vs-pad-write′
+use Rattle.door.proofs.vs_block_number as vs-block-number′
+use Rattle.door.proofs.vs_block_part as vs-block-part′
+use Rattle.door.proofs.vs_remove_number as vs-remove-number′
+use Rattle.door.proofs.vs_remove_part as vs-remove-part′
+use Rattle.door.proofs.vs_sheet_read as vs-sheet-read′
+use Rattle.door.proofs.vs_deliver as vs-deliver′
+use Rattle.door.proofs.vs_ask as vs-ask′
+
+abbrev pub vs-update-in-place-says : Says vs-update-in-place′.ended (λ M. vs-update-in-place′.clauses {M = M})
+vs-update-in-place-says = record { claim = _; stated = λ M 𝓤 H A mem run κs a g r e. refl }
+
+pub vs-update-in-place : CoincideAt vs-update-in-place′.ended Hash (λ κs e. now (e .0)) (vs-update-in-place-says .claim)
+vs-update-in-place κs a x y e f p q = (p .0 ∙ sym (q .0), p .1 ∙ sym (q .1))
+
+abbrev pub vs-deliver-in-place-says : Says vs-deliver-in-place′.ended (λ M. vs-deliver-in-place′.clauses {M = M})
+vs-deliver-in-place-says = record { claim = _; stated = λ M 𝓤 H A mem run κs a g r e. refl }
+
+pub vs-deliver-in-place : CoincideAt vs-deliver-in-place′.ended Session (λ κs e. now (e .0)) (vs-deliver-in-place-says .claim)
+vs-deliver-in-place κs a x y e f p q = (p .0 ∙ sym (q .0), p .1 ∙ sym (q .1))
+
+abbrev pub vs-ask-in-place-says : Says vs-ask-in-place′.ended (λ M. vs-ask-in-place′.clauses {M = M})
+vs-ask-in-place-says = record { claim = _; stated = λ M 𝓤 H A mem run κs a g r e. refl }
+
+pub vs-ask-in-place : Coincide vs-ask-in-place′.ended (vs-ask-in-place-says .claim)
+vs-ask-in-place κs a x y e f p q = p ∙ sym q
+
+abbrev pub vs-sheet-read-in-place-says : Says vs-sheet-read-in-place′.ended (λ M. vs-sheet-read-in-place′.clauses {M = M})
+vs-sheet-read-in-place-says = record { claim = _; stated = λ M 𝓤 H A mem run κs a g r e. refl }
+
+pub vs-sheet-read-in-place : CoincideAt vs-sheet-read-in-place′.ended Session (λ κs e. now (e .0)) (vs-sheet-read-in-place-says .claim)
+vs-sheet-read-in-place κs a x y e f p q = (p .0 ∙ sym (q .0), p .1 ∙ sym (q .1))
+
+pub vs-fold : Coincide vs-fold′.ended vs-fold′.Reads.Post
+vs-fold κs a x y e f p q = p ∙ sym q
+
+pub vs-fresh : Coincide vs-fresh′.ended vs-fresh′.Reads.Post
+vs-fresh κs a x y e f p q = p ∙ sym q
+
+pub vs-update : Coincide vs-update′.ended vs-update′.Reads.Post
+vs-update κs a x y e f p q = p ∙ sym q
+
+pub vs-finish : Coincide vs-finish′.ended vs-finish′.Reads.Post
+vs-finish κs a x y e f p q = p ∙ sym q
+
+pub vs-digest-of : Coincide vs-digest-of′.ended vs-digest-of′.Reads.Post
+vs-digest-of κs a x y e f p q = p ∙ sym q
+
+pub vs-compare-message : Coincide vs-compare-message′.ended vs-compare-message′.Reads.Post
+vs-compare-message κs a x y e f p q = p ∙ sym q
+
+pub vs-compare-state : Coincide vs-compare-state′.ended vs-compare-state′.Reads.Post
+vs-compare-state κs a x y e f p q = p ∙ sym q
+
+pub vs-pad-write : CoincideAt vs-pad-write′.ended (List ℕ) (λ κs e. now (e .1 .0)) vs-pad-write′.Reads.Post
+vs-pad-write κs a x y e f p q = (p .0 ∙ sym (q .0), p .1 ∙ sym (q .1))
+
+pub vs-block-number : Coincide vs-block-number′.ended vs-block-number′.Reads.Post
+vs-block-number κs a x y e f p q = p ∙ sym q
+
+pub vs-block-part : Coincide vs-block-part′.ended vs-block-part′.Reads.Post
+vs-block-part κs a x y e f p q = p ∙ sym q
+
+pub vs-remove-number : Coincide vs-remove-number′.ended vs-remove-number′.Reads.Post
+vs-remove-number κs a x y e f p q = p ∙ sym q
+
+pub vs-remove-part : Coincide vs-remove-part′.ended vs-remove-part′.Reads.Post
+vs-remove-part κs a x y e f p q = p ∙ sym q
+
+pub vs-sheet-read : Coincide vs-sheet-read′.ended vs-sheet-read′.Reads.Post
+vs-sheet-read κs a x y e f p q = p ∙ sym q
+
+pub vs-deliver : Coincide vs-deliver′.ended vs-deliver′.Reads.Post
+vs-deliver κs a x y e f p q = p ∙ sym q
+
+pub vs-ask : Coincide vs-ask′.ended vs-ask′.Reads.Post
+vs-ask κs a x y e f p q = p ∙ sym q

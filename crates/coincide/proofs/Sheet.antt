@@ -1,0 +1,35 @@
+-- `sheet`: any two results that meet a contract coincide. Assumes nothing.
+use mathlib.Core.Path.{sym, _∙_}
+use Rattle.coincide.specs.Coincide.{Coincide}
+use Rattle.sheet.proofs.header_at as header-at′
+use Rattle.sheet.proofs.header_number as header-number′
+use Rattle.sheet.proofs.entry_number as entry-number′
+use Rattle.sheet.proofs.note_number as note-number′
+use Rattle.sheet.proofs.judged as judged′
+use Rattle.sheet.proofs.start_of as start-of′
+use Rattle.sheet.proofs.listing_at as listing-at′
+use Rattle.sheet.proofs.read as read′
+
+pub header-at : Coincide header-at′.ended header-at′.Reads.Post
+header-at κs a x y e f p q = p ∙ sym q
+
+pub header-number : Coincide header-number′.ended header-number′.Reads.Post
+header-number κs a x y e f p q = p ∙ sym q
+
+pub entry-number : Coincide entry-number′.ended entry-number′.Reads.Post
+entry-number κs a x y e f p q = p ∙ sym q
+
+pub note-number : Coincide note-number′.ended note-number′.Reads.Post
+note-number κs a x y e f p q = p ∙ sym q
+
+pub judged : Coincide judged′.ended judged′.Reads.Post
+judged κs a x y e f p q = p ∙ sym q
+
+pub start-of : Coincide start-of′.ended start-of′.Reads.Post
+start-of κs a x y e f p q = p ∙ sym q
+
+pub listing-at : Coincide listing-at′.ended listing-at′.Reads.Post
+listing-at κs a x y e f p q = p ∙ sym q
+
+pub read : Coincide read′.ended read′.Reads.Post
+read κs a x y e f p q = p ∙ sym q

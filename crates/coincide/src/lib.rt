@@ -1,0 +1,1 @@
+// No code: any two results that meet a public function's contract coincide.

@@ -1,3 +1,0 @@
-pub mod Structs
-pub mod Slots
-pub mod Pieces

@@ -1,0 +1,4 @@
+pub mod Structs
+pub mod Slots
+pub mod Filling
+pub mod Sheets
