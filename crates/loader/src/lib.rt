@@ -1,97 +1,83 @@
-// The program's work, over a folder: a rank's sheet and its notes' files, and what is printed of them. Everything that matters is in the
-// libraries below; this reads files and prints.
+// The program's work, over a folder: a rank's sheet and its notes' files, and the text that is printed of them. What a file holds is not
+// in the logic; what is made of it is.
+ghost use mathlib.Core.Path.{_≡_};
+ghost use Rattle.loader.specs.Loading.{Fed, NoteLoaded, Loaded, OfSlot, SheetRead, Shown};
 use libc::STDOUT_FILENO;
+use refusal::ACCEPTED;
 use session::Session;
 use sheet::Sheet;
-use slots::Answer;
+use slots::Slot;
+use texts::Text;
 
 mod path;
 
 // A file is delivered in full pieces of so many bytes, the last one shorter; a sheet is the first so many bytes of its file.
 const PIECE: usize = 4096;
 
-// More pieces than any note can take: its length is below 2^32 bytes, so one of the first 2^20 + 1 pieces is short, decides the note or is refused.
-const MOST_PIECES: u32 = 1048578;
+// So many notes can be listed.
+const NOTES: u64 = 32;
 
-fn print(text: &[u8]) {
-    io::write_all(STDOUT_FILENO, text);
-}
-
-fn print_number(n: u64) {
-    io::print_decimal(STDOUT_FILENO, n);
-}
-
-// A note's session after the whole of its file.
-fn deliver_all(fd: i32, note: u64, session: Session) -> Session {
-    let mut now = session;
-    let mut left = MOST_PIECES;
-    while 0 < left {
+// A note's slot after the whole of its file, or after as much of it as comes before the first refusal. Each full piece that is accepted
+// leaves fewer bytes to come, so the loop ends.
+fn feed(fd: i32, note: u64, slot: Slot) -> Slot
+    ensures { λ r. ⌜ OfSlot (Fed note) note slot r ⌝ }
+{
+    let mut now = slot;
+    loop {
         let mut piece = io::buffer();
         let n = io::read_full(fd, &mut piece);
         if n == 0 {
             return now;
         }
-        let d = now.deliver(note, &piece[..n]);
-        if d.answer.no != refusal::ACCEPTED {
+        let step = slots::deliver_at(now, note, &piece[..n]);
+        let answer = step.answer;
+        if answer.number != ACCEPTED {
             return now;
         }
-        let next = d.session;
+        let next = step.slot;
         now = next;
         if n < PIECE {
             return now;
         }
-        left -= 1;
     }
-    now
 }
 
-// What cannot be opened delivers nothing.
-fn load(folder: &[u8], note: u64, session: Session) -> Session {
+// A note's slot once the note is loaded. What is not listed is left, and what cannot be opened delivers nothing.
+fn load(folder: &[u8], note: u64, slot: Slot) -> Slot
+    ensures { λ r. ⌜ OfSlot (NoteLoaded note) note slot r ⌝ }
+{
+    if slots::ask_at(slot, note).number != ACCEPTED {
+        return slot;
+    }
     let fd = path::open_note(folder, note);
     if fd < 0 {
-        return session;
+        return slot;
     }
-    let after = deliver_all(fd, note, session);
+    let after = feed(fd, note, slot);
     libc::close(fd);
     after
 }
 
-fn print_note(note: u64, a: Answer) {
-    print_number(note);
-    if a.status == slots::WAITING {
-        print(b"\twaiting\t");
-    } else if a.status == slots::OPENED {
-        print(b"\topen\t");
-    } else {
-        print(b"\tshut\t");
+// The session once its listed notes are loaded, rising. One slot is copied at a time.
+fn load_all(folder: &[u8], mut session: Session) -> Session
+    ensures { λ r. ⌜ Loaded session r ⌝ }
+{
+    let mut done: u64 = 0;
+    while done < NOTES {
+        let note = done + 1;
+        let index = session::slot_index(note);
+        let slot = session.slots[index];
+        let after = load(folder, note, slot);
+        session.slots[index] = after;
+        done = note;
     }
-    print_number(a.taken);
-    print(b"\n");
-}
-
-fn notes(folder: &[u8], session: Session) {
-    let mut now = session;
-    let mut note: u64 = 1;
-    while note <= 32 {
-        if now.ask(note).no == refusal::ACCEPTED {
-            let next = load(folder, note, now);
-            now = next;
-            print_note(note, now.ask(note));
-        }
-        note += 1;
-    }
-}
-
-fn print_refused(no: u8, line: u32) {
-    print(b"refused\t");
-    print_number(no as u64);
-    print(b"\t");
-    print_number(line as u64);
-    print(b"\n");
+    session
 }
 
 // The sheet of a file that is open, or of an empty text where there is none.
-fn sheet_of(fd: i32) -> Sheet {
+fn sheet_of(fd: i32) -> Sheet
+    ensures { λ r. ⌜ SheetRead r ⌝ }
+{
     if fd < 0 {
         return sheet::read(b"");
     }
@@ -101,13 +87,23 @@ fn sheet_of(fd: i32) -> Sheet {
     sheet::read(&text[..n])
 }
 
-// Reads the folder's rank.txt and the files of its notes, and prints a line for each listed note, or one line for a refused sheet. The
-// folder's name ends in `/`, or is empty for the folder that the program is run in.
-pub fn run(folder: &[u8]) {
-    let s = sheet_of(path::open_sheet(folder));
-    if s.no != refusal::ACCEPTED {
-        print_refused(s.no, s.line);
-        return;
+// The text to print of a folder: of its rank.txt, and of the files of its notes.
+fn shown(folder: &[u8]) -> Text
+    ensures { λ r. ⌜ Shown r ⌝ }
+{
+    let sheet = sheet_of(path::open_sheet(folder));
+    let verdict = sheet.verdict;
+    if verdict.number != ACCEPTED {
+        return report::refused_line(verdict.number, verdict.line);
     }
-    notes(folder, s.session);
+    let session = sheet.session;
+    report::session_lines(load_all(folder, session))
+}
+
+// Prints that text. The folder's name ends in `/`, or is empty for the folder that the program is run in.
+pub fn run(folder: &[u8]) {
+    let text = shown(folder);
+    let bytes = text.bytes;
+    let n = text.length;
+    io::write_all(STDOUT_FILENO, &bytes[..n]);
 }

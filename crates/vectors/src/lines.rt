@@ -16,8 +16,8 @@ pub struct Tally {
     pub differ: u64,
 }
 
-// Where the run stands: the message, whether the line before was of it, the blocks begun, and how many words of each kind were seen of this block
-// (of the message, for padded words).
+// Where the run stands: the message, whether the line before was of it, the blocks begun, and how many words of each kind were seen of
+// this block (of the message, for padded words).
 pub struct Run {
     pub message: Message,
     pub joining: bool,

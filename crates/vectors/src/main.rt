@@ -1,7 +1,9 @@
-// Runs the traces of documents 003 and 004 and the examples of document 001's appendices through the proved library, from data/, and prints a line for
-// each source: how many of each kind were compared, and how many lines differ. A line that differs is named above it.
+// Runs the traces of documents 003 and 004 and the examples of document 001's appendices through the proved library, from data/, and
+// prints a line for each source: how many of each kind were compared, and how many lines differ. A line that differs is named above it.
+// Then the small examples of document 01.
 use libc::STDOUT_FILENO;
 
+mod examples;
 mod lines;
 mod text;
 mod trace;
@@ -83,4 +85,5 @@ fn main() {
     source(b"001-appendix-b.txt");
     source(b"003-traces.txt");
     source(b"004-traces.txt");
+    examples::run();
 }

@@ -73,7 +73,7 @@ pub fn chained(m: Message, n: usize) -> Words {
     while i < n {
         let b = block_of(m, i);
         let block = b.bytes;
-        let next = sm3::fold_block(v, &block);
+        let next = folding::fold_block(v, &block);
         v = next;
         i += 1;
     }
@@ -123,7 +123,7 @@ pub fn w(m: Message, n: usize, i: usize) -> Wanted {
         return none();
     }
     let block = b.bytes;
-    let words = sm3::expanded(&block);
+    let words = folding::expanded(&block);
     some(words[i])
 }
 
@@ -137,7 +137,7 @@ pub fn w1(m: Message, n: usize, i: usize) -> Wanted {
         return none();
     }
     let block = b.bytes;
-    let words = sm3::expanded(&block);
+    let words = folding::expanded(&block);
     some(words[i] ^ words[i + 4])
 }
 
@@ -156,7 +156,7 @@ pub fn register(m: Message, n: usize, rounds: usize, i: usize) -> Wanted {
         return none();
     }
     let block = b.bytes;
-    let words = sm3::expanded(&block);
+    let words = folding::expanded(&block);
     let v = chained(m, n);
     of_eight(row(v, &words, rounds), i)
 }
@@ -169,7 +169,7 @@ pub fn next_value(m: Message, n: usize, i: usize) -> Wanted {
     }
     let block = b.bytes;
     let v = chained(m, n);
-    of_eight(sm3::fold_block(v, &block), i)
+    of_eight(folding::fold_block(v, &block), i)
 }
 
 // Word i of the message's digest.
