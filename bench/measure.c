@@ -1,6 +1,8 @@
-/* Runs one thing N times, so that the instructions of one can be counted as a difference. measure WHAT N:
- * plain, fold: N blocks folded by the plain C and by the proved library; update SIZE: N pieces of SIZE bytes into a state in place;
- * deliver SIZE, deliver_by_value SIZE: N pieces of SIZE bytes to a waiting note. What it prints keeps the work from being dropped. */
+/* Does one thing N times, so that the instructions of one can be counted as a difference. measure WHAT SIZE N:
+ * plain, fold: N blocks folded by the plain C and by the proved library (SIZE is not looked at);
+ * update: N pieces of SIZE bytes into a state, by value;
+ * deliver, deliver_by_value: N pieces of SIZE bytes to a waiting note, in place and by value.
+ * What it prints keeps the work from being dropped. It is eight figures whatever they are, each made in the same number of steps. */
 #include "../host/plain_c.h"
 #include "../host/veenstipper.h"
 
@@ -8,6 +10,7 @@ void plain_fold(uint32_t v[8], const uint8_t *bytes, uint64_t blocks);
 
 static uint8_t bytes[64 * 4096];
 static vs_session session;
+static bool all_taken = true; /* a delivery that is refused would count as a quick one */
 
 static void fill(void) {
     for (size_t i = 0; i < sizeof bytes; i++)
@@ -31,16 +34,15 @@ static uint32_t update(size_t size, size_t n) {
 }
 
 static uint32_t deliver(bool in_place, size_t size, size_t n) {
+    static const char sheet[] = "RANK\t1\t1\n5\t1073741824\t0\t1\t0000000000000000000000000000000000000000000000000000000000000000\n";
     vs_slot *slot = &session.slots[4];
-    session.slots[4].state = vs_fresh();
-    slot->sample.length = 1u << 30;
-    slot->sample.end = 1;
-    slot->status = VS_WAITING;
+    vs_sheet_read_in_place(&session, (const uint8_t *)sheet, sizeof sheet - 1);
     for (size_t i = 0; i < n; i++)
         if (in_place)
             vs_deliver_in_place(&session, 5, bytes, size);
         else
             session = vs_deliver(session, 5, bytes, size).session;
+    all_taken = slot->state.total == size * n;
     return slot->state.words.a ^ (uint32_t)slot->state.total;
 }
 
@@ -58,6 +60,9 @@ int main(int argc, char **argv) {
         seen = deliver(false, size, n);
     else
         seen = fold(argv[1], n);
-    printf("%08x\n", seen);
-    return 0;
+    char line[] = "00000000\n";
+    for (int i = 0; i < 8; i++)
+        line[i] = "0123456789abcdef"[seen >> (28 - 4 * i) & 15];
+    fputs(line, stdout);
+    return all_taken ? 0 : 1;
 }

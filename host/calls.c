@@ -1,101 +1,109 @@
-/* Reads calls from standard input and prints what the library answers, one line a call. The format is CALLS.md's. It decides nothing. */
+/* Reads calls from standard input and prints what the library answers, one line a call. The format is CALLS.md's, and nothing else is taken.
+ * It decides nothing. */
 #include "plain_c.h"
 #include "veenstipper.h"
 
-enum { MOST_BYTES = 70000, MOST_FIELDS = 5 };
+enum {
+    MOST_BYTES = 70000,
+    LONGEST_CALL = 2 * 2 * MOST_BYTES + 64, /* no call has more than two slices, and what stands beside two is shorter than 64 */
+    MOST_FIELDS = 5                         /* a name, at most three arguments, and one that is too many */
+};
 
-/* ---- Reading values ---- */
+/* ---- The arguments of one call ---- */
 
 typedef struct {
     uint8_t bytes[MOST_BYTES];
     size_t length;
-    const uint8_t *at; /* the bytes above, or an address that must not be read */
+    const uint8_t *at; /* the bytes above, or NOWHERE */
 } slice;
 
-static int nibble(int c) { return c >= '0' && c <= '9' ? c - '0' : c >= 'a' && c <= 'f' ? c - 'a' + 10 : -1; }
+/* An address in the first page, which no program has. */
+#define NOWHERE ((const uint8_t *)64)
 
-/* As many hex digits as `text` begins with, two a byte, at most MOST_BYTES of them; answers where it stopped. */
-static const char *hex(const char *text, uint8_t *out, size_t *count) {
+static struct {
+    vs_hash state;
+    vs_session session;
+    uint64_t number;
+    slice slices[2];
+    int slice_count;
+} given;
+
+#define FIRST given.slices[0].at, given.slices[0].length
+#define SECOND given.slices[1].at, given.slices[1].length
+
+/* ---- Reading values: each takes its value from the front of the text, and says whether it is there ---- */
+
+static bool take(const char **text, char c) {
+    bool there = **text == c;
+    *text += there;
+    return there;
+}
+
+/* A decimal number with no leading zero. */
+static bool take_number(const char **text, uint64_t most, uint64_t *n) {
+    const char *from = *text;
+    for (*n = 0; **text >= '0' && **text <= '9'; ++*text) {
+        uint64_t digit = (uint64_t)(**text - '0');
+        if (*n > most / 10 || *n * 10 > most - digit)
+            return false;
+        *n = *n * 10 + digit;
+    }
+    return *text != from && (*from != '0' || *text == from + 1);
+}
+
+static bool take_number_32(const char **text, uint32_t *n) {
+    uint64_t wide = 0;
+    bool there = take_number(text, UINT32_MAX, &wide);
+    *n = (uint32_t)wide;
+    return there;
+}
+
+static int nibble(char c) { return c >= '0' && c <= '9' ? c - '0' : c >= 'a' && c <= 'f' ? c - 'a' + 10 : -1; }
+
+/* Two hex digits a byte, as many as there are and at most `most`. */
+static size_t take_some_hex(const char **text, uint8_t *out, size_t most) {
     size_t n = 0;
-    for (; n < MOST_BYTES && nibble(text[0]) >= 0 && nibble(text[1]) >= 0; text += 2)
-        out[n++] = (uint8_t)(nibble(text[0]) * 16 + nibble(text[1]));
-    *count = n;
-    return text;
+    for (; n < most && nibble((*text)[0]) >= 0 && nibble((*text)[1]) >= 0; *text += 2)
+        out[n++] = (uint8_t)(nibble((*text)[0]) * 16 + nibble((*text)[1]));
+    return n;
 }
 
-/* A number of at most 2^64 - 1, in figures alone; answers where it stopped, or a text that ends no value. */
-static const char *read_number(const char *text, uint64_t *n) {
-    *n = 0;
-    if (*text < '0' || *text > '9')
-        return "?";
-    for (; *text >= '0' && *text <= '9'; text++) {
-        uint64_t figure = (uint64_t)(*text - '0');
-        if (*n > (UINT64_MAX - figure) / 10)
-            return "?";
-        *n = *n * 10 + figure;
-    }
-    return text;
-}
-
-static bool read_slice(const char *text, slice *s) {
-    s->at = s->bytes;
-    s->length = 0;
-    if (text[0] == '-')
-        return text[1] == 0;
-    if (text[0] == '@') {
-        uint64_t length;
-        const char *end = read_number(text + 1, &length);
-        s->length = length;
-        s->at = (const uint8_t *)VS_BLOCK; /* no memory of this program's */
-        return *end == 0;
-    }
-    return strlen(text) <= 2 * MOST_BYTES && *hex(text, s->bytes, &s->length) == 0;
-}
+static bool take_hex(const char **text, uint8_t *out, size_t count) { return take_some_hex(text, out, count) == count; }
 
 static uint32_t word_at(const uint8_t *b) { return (uint32_t)b[0] << 24 | (uint32_t)b[1] << 16 | (uint32_t)b[2] << 8 | b[3]; }
 
-/* WORDS:TOTAL:TAIL; answers where it stopped, or a null pointer. */
-static const char *read_state(const char *text, vs_hash *h) {
-    uint8_t bytes[MOST_BYTES];
-    size_t n;
-    text = hex(text, bytes, &n);
-    if (n != 32 || *text++ != ':')
-        return 0;
-    h->words = (vs_words){word_at(bytes),      word_at(bytes + 4),  word_at(bytes + 8),  word_at(bytes + 12),
-                          word_at(bytes + 16), word_at(bytes + 20), word_at(bytes + 24), word_at(bytes + 28)};
-    text = read_number(text, &h->total);
-    if (*text++ != ':')
-        return 0;
-    text = hex(text, bytes, &n);
-    if (n != VS_BLOCK)
-        return 0;
-    memcpy(h->tail, bytes, VS_BLOCK);
-    return text;
+/* WORDS:TOTAL:TAIL */
+static bool take_state(const char **text, vs_hash *h) {
+    uint8_t w[sizeof(vs_words)];
+    if (!(take_hex(text, w, sizeof w) && take(text, ':') && take_number(text, UINT64_MAX, &h->total) && take(text, ':')))
+        return false;
+    h->words = (vs_words){word_at(w),      word_at(w + 4),  word_at(w + 8),  word_at(w + 12),
+                          word_at(w + 16), word_at(w + 20), word_at(w + 24), word_at(w + 28)};
+    return take_hex(text, h->tail, VS_BLOCK);
 }
 
-static const char *read_field(const char *text, uint32_t *n) {
-    uint64_t wide;
-    text = read_number(text, &wide);
-    *n = (uint32_t)wide;
-    return *text == ':' && wide <= UINT32_MAX ? text + 1 : 0;
+/* LENGTH:LOOP_START:LOOP_END:DIGEST */
+static bool take_record(const char **text, vs_record *r) {
+    return take_number_32(text, &r->length) && take(text, ':') && take_number_32(text, &r->loop_start) && take(text, ':') &&
+           take_number_32(text, &r->loop_end) && take(text, ':') && take_hex(text, r->digest, VS_DIGEST);
 }
 
-/* LENGTH:START:END:DIGEST:WORDS:TOTAL:TAIL:STATUS */
-static const char *read_slot(const char *text, vs_slot *s) {
-    uint8_t digest[MOST_BYTES];
-    size_t n;
-    uint64_t status;
-    if (!(text = read_field(text, &s->sample.length)) || !(text = read_field(text, &s->sample.start)) || !(text = read_field(text, &s->sample.end)))
-        return 0;
-    text = hex(text, digest, &n);
-    if (n != VS_DIGEST || *text++ != ':')
-        return 0;
-    memcpy(s->sample.digest, digest, VS_DIGEST);
-    if (!(text = read_state(text, &s->state)) || *text++ != ':')
-        return 0;
-    text = read_number(text, &status);
+static bool take_slot(const char **text, vs_slot *s) {
+    uint64_t status = 0;
+    bool there = take_record(text, &s->sample) && take(text, ':') && take_state(text, &s->state) && take(text, ':') &&
+                 take_number(text, UINT8_MAX, &status);
     s->status = (uint8_t)status;
-    return status <= UINT8_MAX ? text : 0;
+    return there;
+}
+
+static bool same_state(const vs_hash *a, const vs_hash *b) {
+    return memcmp(&a->words, &b->words, sizeof a->words) == 0 && a->total == b->total && memcmp(a->tail, b->tail, VS_BLOCK) == 0;
+}
+
+static bool is_empty(const vs_slot *s) {
+    static const vs_record zero;
+    vs_hash fresh = vs_fresh();
+    return s->status == VS_NONE && memcmp(&s->sample, &zero, sizeof zero) == 0 && same_state(&s->state, &fresh);
 }
 
 static void empty_session(vs_session *s) {
@@ -104,29 +112,49 @@ static void empty_session(vs_session *s) {
         s->slots[i].state = vs_fresh();
 }
 
-static bool read_session(const char *text, vs_session *s) {
+/* Slots that are not empty, their notes rising. */
+static bool take_session(const char **text, vs_session *s) {
+    uint64_t note, last = 0;
     empty_session(s);
-    if (text[0] == '-')
-        return text[1] == 0;
-    for (;;) {
-        uint64_t note;
-        text = read_number(text, &note);
-        if (*text++ != '=' || note < 1 || note > VS_NOTES || !(text = read_slot(text, &s->slots[note - 1])))
+    if (take(text, '-'))
+        return true;
+    do {
+        if (!take_number(text, VS_NOTES, &note) || note <= last || !take(text, '='))
             return false;
-        if (*text == 0)
-            return true;
-        if (*text++ != ',')
+        if (!take_slot(text, &s->slots[note - 1]) || is_empty(&s->slots[note - 1]))
             return false;
-    }
+        last = note;
+    } while (take(text, ','));
+    return true;
+}
+
+static bool take_bytes(const char **text, slice *s) {
+    s->at = s->bytes;
+    s->length = 0;
+    if (take(text, '-'))
+        return true;
+    s->length = take_some_hex(text, s->bytes, MOST_BYTES);
+    return s->length > 0;
+}
+
+/* Bytes, or `@N`. */
+static bool take_lent(const char **text, slice *s) {
+    if (!take(text, '@'))
+        return take_bytes(text, s);
+    s->at = NOWHERE;
+    return take_number(text, UINT64_MAX, &s->length);
 }
 
 /* ---- Printing values ---- */
 
 static void put_hex(const uint8_t *b, size_t n) {
+    static const char digits[] = "0123456789abcdef";
     if (n == 0)
         fputc('-', stdout);
-    for (size_t i = 0; i < n; i++)
-        printf("%02x", b[i]);
+    for (size_t i = 0; i < n; i++) {
+        fputc(digits[b[i] >> 4], stdout);
+        fputc(digits[b[i] & 15], stdout);
+    }
 }
 
 static void put_words(vs_words w) { printf("%08x%08x%08x%08x%08x%08x%08x%08x", w.a, w.b, w.c, w.d, w.e, w.f, w.g, w.h); }
@@ -137,152 +165,222 @@ static void put_state(const vs_hash *h) {
     put_hex(h->tail, VS_BLOCK);
 }
 
-static bool same_state(const vs_hash *a, const vs_hash *b) {
-    return memcmp(&a->words, &b->words, sizeof a->words) == 0 && a->total == b->total && memcmp(a->tail, b->tail, VS_BLOCK) == 0;
-}
-
-static bool is_empty(const vs_slot *s) {
-    static const uint8_t zeros[VS_DIGEST];
-    vs_hash fresh = vs_fresh();
-    return s->status == 0 && s->sample.length == 0 && s->sample.start == 0 && s->sample.end == 0 && memcmp(s->sample.digest, zeros, VS_DIGEST) == 0 &&
-           same_state(&s->state, &fresh);
+static void put_slot(const vs_slot *s) {
+    printf("%u:%u:%u:", s->sample.length, s->sample.loop_start, s->sample.loop_end);
+    put_hex(s->sample.digest, VS_DIGEST);
+    fputc(':', stdout);
+    put_state(&s->state);
+    printf(":%u", s->status);
 }
 
 static void put_session(const vs_session *s) {
     bool any = false;
     for (int i = 0; i < VS_NOTES; i++) {
-        const vs_slot *slot = &s->slots[i];
-        if (is_empty(slot))
+        if (is_empty(&s->slots[i]))
             continue;
-        printf("%s%d=%u:%u:%u:", any ? "," : "", i + 1, slot->sample.length, slot->sample.start, slot->sample.end);
-        put_hex(slot->sample.digest, VS_DIGEST);
-        fputc(':', stdout);
-        put_state(&slot->state);
-        printf(":%u", slot->status);
+        printf("%s%d=", any ? "," : "", i + 1);
+        put_slot(&s->slots[i]);
         any = true;
     }
     if (!any)
         fputc('-', stdout);
 }
 
-static void put_answer(vs_answer a) { printf("%u\t%u\t%llu", a.no, a.status, (unsigned long long)a.taken); }
+static void put_digest(vs_digest d) {
+    printf("%u\t", d.number);
+    put_hex(d.bytes, VS_DIGEST);
+}
+
+static void put_compared(vs_compared c) { printf("%u\t%u", c.number, c.same); }
+
+static void put_answer(vs_answer a) { printf("%u\t%u\t%llu", a.number, a.status, (unsigned long long)a.taken); }
+
+static void put_verdict(vs_verdict v, const vs_session *s) {
+    printf("%u\t%u\t", v.number, v.line);
+    put_session(s);
+}
 
 static void put_part(const uint8_t *from, size_t offset, size_t length) {
     printf("%llu\t%llu\t", (unsigned long long)offset, (unsigned long long)length);
     put_hex(from + offset, length);
 }
 
-/* ---- The calls ---- */
+/* ---- The calls: each makes one of what is given, and prints the answers ---- */
 
-static slice first, second;
-static vs_session session;
-static vs_hash state;
-static uint64_t number;
-
-static bool hash_call(const char *name, char **f, int fields) {
-    bool whole = fields == 3 && read_slice(f[2], &second);
-    const char *end = fields >= 2 ? read_state(f[1], &state) : 0;
-    if (strcmp(name, "fresh") == 0 && fields == 1) {
-        state = vs_fresh();
-        put_state(&state);
-    } else if (strcmp(name, "fold") == 0 && end && !*end && whole) {
-        put_words(vs_fold(state.words, second.at, second.length));
-    } else if (strcmp(name, "update") == 0 && end && !*end && whole) {
-        vs_updated u = vs_update(state, second.at, second.length);
-        printf("%u\t", u.no);
-        put_state(&u.state);
-    } else if (strcmp(name, "update_in_place") == 0 && end && !*end && whole) {
-        printf("%u\t", vs_update_in_place(&state, second.at, second.length));
-        put_state(&state);
-    } else if (strcmp(name, "finish") == 0 && end && !*end && fields == 2) {
-        vs_digest d = vs_finish(state);
-        printf("%u\t", d.no);
-        put_hex(d.bytes, VS_DIGEST);
-    } else if (strcmp(name, "compare_state") == 0 && end && !*end && whole) {
-        vs_compared c = vs_compare_state(state, second.at, second.length);
-        printf("%u\t%u", c.no, c.same);
-    } else
-        return false;
-    return true;
+static void fresh(void) {
+    vs_hash h = vs_fresh();
+    put_state(&h);
 }
 
-static bool message_call(const char *name, char **f, int fields) {
-    if (fields < 2 || !read_slice(f[1], &first) || (fields >= 3 && !read_slice(f[2], &second)))
-        return false;
-    if (fields == 4 && *read_number(f[3], &number))
-        return false;
-    if (strcmp(name, "digest") == 0 && fields == 2) {
-        vs_digest d = vs_digest_of(first.at, first.length);
-        printf("%u\t", d.no);
-        put_hex(d.bytes, VS_DIGEST);
-    } else if (strcmp(name, "compare_message") == 0 && fields == 3) {
-        vs_compared c = vs_compare_message(first.at, first.length, second.at, second.length);
-        printf("%u\t%u", c.no, c.same);
-    } else if (strcmp(name, "pad_write") == 0 && fields == 3 && second.at == second.bytes) {
-        vs_written w = vs_pad_write(first.at, first.length, second.bytes, second.length);
-        printf("%u\t%llu\t", w.no, (unsigned long long)w.count);
-        put_hex(second.bytes, second.length);
-    } else if (strcmp(name, "block_number") == 0 && fields == 4) {
-        printf("%u", vs_block_number(first.at, first.length, second.at, second.length, number));
-    } else if (strcmp(name, "block_part") == 0 && fields == 4) {
-        vs_part p = vs_block_part(first.at, first.length, second.at, second.length, number);
-        printf("%u\t", p.which);
-        put_part(p.which == 1 ? first.at : second.at, p.offset, p.length);
-    } else if (strcmp(name, "remove_number") == 0 && fields == 2) {
-        printf("%u", vs_remove_number(first.at, first.length));
-    } else if (strcmp(name, "remove_part") == 0 && fields == 2) {
-        put_part(first.at, 0, vs_remove_part(first.at, first.length));
-    } else if (strcmp(name, "sheet_read") == 0 && fields == 2) {
-        vs_sheet s = vs_sheet_read(first.at, first.length);
-        printf("%u\t%u\t", s.no, s.line);
-        put_session(&s.session);
-    } else
-        return false;
-    return true;
+static void fold(void) { put_words(vs_fold(given.state.words, FIRST)); }
+
+static void update(void) {
+    vs_updated u = vs_update(given.state, FIRST);
+    printf("%u\t", u.number);
+    put_state(&u.state);
 }
 
-static bool session_call(const char *name, char **f, int fields) {
-    if (fields < 3 || !read_session(f[1], &session) || (fields == 4 && !read_slice(f[3], &second)))
-        return false;
-    if (strcmp(name, "sheet_read_in_place") == 0 && fields == 3 && read_slice(f[2], &second)) {
-        vs_judged j = vs_sheet_read_in_place(&session, second.at, second.length);
-        printf("%u\t%u\t", j.no, j.line);
-        put_session(&session);
-        return true;
+static void update_in_place(void) {
+    printf("%u\t", vs_update_in_place(&given.state, FIRST));
+    put_state(&given.state);
+}
+
+static void finish(void) { put_digest(vs_finish(given.state)); }
+
+static void digest(void) { put_digest(vs_digest_of(FIRST)); }
+
+static void compare_message(void) { put_compared(vs_compare_message(FIRST, SECOND)); }
+
+static void compare_state(void) { put_compared(vs_compare_state(given.state, FIRST)); }
+
+static void pad_write(void) {
+    slice *buffer = &given.slices[1];
+    vs_written w = vs_pad_write(FIRST, buffer->bytes, buffer->length);
+    printf("%u\t%llu\t", w.number, (unsigned long long)w.count);
+    put_hex(buffer->bytes, buffer->length);
+}
+
+static void block_number(void) { printf("%u", vs_block_number(FIRST, SECOND, given.number)); }
+
+static void block_part(void) {
+    vs_place p = vs_block_part(FIRST, SECOND, given.number);
+    printf("%u\t", p.which);
+    put_part(given.slices[p.which == VS_IN_MESSAGE ? 0 : 1].at, p.offset, p.length);
+}
+
+static void remove_number(void) { printf("%u", vs_remove_number(FIRST)); }
+
+static void remove_part(void) { put_part(given.slices[0].at, 0, vs_remove_part(FIRST)); }
+
+static void sheet_read(void) {
+    vs_sheet s = vs_sheet_read(FIRST);
+    put_verdict(s.verdict, &s.session);
+}
+
+static void sheet_read_in_place(void) {
+    vs_verdict v = vs_sheet_read_in_place(&given.session, FIRST);
+    put_verdict(v, &given.session);
+}
+
+static void deliver(void) {
+    vs_delivered d = vs_deliver(given.session, given.number, FIRST);
+    put_answer(d.answer);
+    fputc('\t', stdout);
+    put_session(&d.session);
+}
+
+static void deliver_in_place(void) {
+    put_answer(vs_deliver_in_place(&given.session, given.number, FIRST));
+    fputc('\t', stdout);
+    put_session(&given.session);
+}
+
+static void ask(void) { put_answer(vs_ask(given.session, given.number)); }
+
+static void ask_in_place(void) { put_answer(vs_ask_in_place(&given.session, given.number)); }
+
+/* Each call with its arguments in order, a letter for each: h a hash state, s a session, n a number, l a slice that is only read (`@N` too), w a
+ * slice that is written. */
+static const struct {
+    const char *name, *arguments;
+    void (*make)(void);
+} calls[] = {
+    {"fresh", "", fresh},
+    {"fold", "hl", fold},
+    {"update", "hl", update},
+    {"update_in_place", "hl", update_in_place},
+    {"finish", "h", finish},
+    {"digest", "l", digest},
+    {"compare_message", "ll", compare_message},
+    {"compare_state", "hl", compare_state},
+    {"pad_write", "lw", pad_write},
+    {"block_number", "lln", block_number},
+    {"block_part", "lln", block_part},
+    {"remove_number", "l", remove_number},
+    {"remove_part", "l", remove_part},
+    {"sheet_read", "l", sheet_read},
+    {"sheet_read_in_place", "sl", sheet_read_in_place},
+    {"deliver", "snl", deliver},
+    {"deliver_in_place", "snl", deliver_in_place},
+    {"ask", "sn", ask},
+    {"ask_in_place", "sn", ask_in_place},
+};
+
+/* ---- Lines ---- */
+
+static bool take_argument(char letter, const char **text) {
+    switch (letter) {
+    case 'h':
+        return take_state(text, &given.state);
+    case 's':
+        return take_session(text, &given.session);
+    case 'n':
+        return take_number(text, UINT64_MAX, &given.number);
+    case 'l':
+        return take_lent(text, &given.slices[given.slice_count++]);
+    default:
+        return take_bytes(text, &given.slices[given.slice_count++]);
     }
-    if (*read_number(f[2], &number))
+}
+
+/* The line's fields, each ended where its tab stood, empty ones too; answers how many. */
+static int part_fields(char *line, char **fields) {
+    int n = 0;
+    while (line && n < MOST_FIELDS) {
+        fields[n++] = line;
+        if ((line = strchr(line, '\t')))
+            *line++ = 0;
+    }
+    return n;
+}
+
+/* Makes the call of a line and prints its answers; whether the line is a call. */
+static bool answer(char *line) {
+    char *fields[MOST_FIELDS];
+    int arguments = part_fields(line, fields) - 1;
+    size_t c = 0, most = sizeof calls / sizeof *calls;
+    while (c < most && strcmp(calls[c].name, fields[0]) != 0)
+        c++;
+    if (c == most || strlen(calls[c].arguments) != (size_t)arguments)
         return false;
-    if (strcmp(name, "deliver") == 0 && fields == 4) {
-        vs_delivered d = vs_deliver(session, number, second.at, second.length);
-        put_answer(d.answer);
-        fputc('\t', stdout);
-        put_session(&d.session);
-    } else if (strcmp(name, "deliver_in_place") == 0 && fields == 4) {
-        put_answer(vs_deliver_in_place(&session, number, second.at, second.length));
-        fputc('\t', stdout);
-        put_session(&session);
-    } else if (strcmp(name, "ask") == 0 && fields == 3) {
-        put_answer(vs_ask(session, number));
-    } else if (strcmp(name, "ask_in_place") == 0 && fields == 3) {
-        put_answer(vs_ask_in_place(&session, number));
-    } else
-        return false;
+    given.slice_count = 0;
+    for (int i = 0; i < arguments; i++) {
+        const char *text = fields[i + 1];
+        if (!take_argument(calls[c].arguments[i], &text) || *text != 0)
+            return false;
+    }
+    calls[c].make();
     return true;
+}
+
+typedef enum { AT_END, NO_CALL, MAYBE_A_CALL } reading;
+
+/* Reads a line to its LF, however long it is, and leaves it without. One that is longer than any call, has a zero byte, or stops without its
+ * LF (it may have been cut short) is no call. */
+static reading read_line(char *line) {
+    size_t n = 0;
+    bool fits = true;
+    int c = fgetc(stdin);
+    if (c < 0)
+        return AT_END;
+    for (; c >= 0 && c != '\n'; c = fgetc(stdin)) {
+        fits = fits && n < LONGEST_CALL && c != 0;
+        if (fits)
+            line[n++] = (char)c;
+    }
+    line[n] = 0;
+    return fits && c == '\n' ? MAYBE_A_CALL : NO_CALL;
 }
 
 int main(void) {
-    static char line[8 * MOST_BYTES];
-    while (fgets(line, sizeof line, stdin)) {
-        char *fields[MOST_FIELDS], *rest;
-        int n = 0;
-        char *end = strchr(line, '\n');
-        if (end)
-            *end = 0;
-        for (char *f = strtok_r(line, "\t", &rest); f && n < MOST_FIELDS; f = strtok_r(0, "\t", &rest))
-            fields[n++] = f;
-        if (n == 0 || !(hash_call(fields[0], fields, n) || message_call(fields[0], fields, n) || session_call(fields[0], fields, n)))
+    static char line[LONGEST_CALL + 1];
+    reading r;
+    while ((r = read_line(line)) != AT_END) {
+        if (r == NO_CALL || !answer(line))
             fputc('?', stdout);
         fputc('\n', stdout);
+        if (fflush(stdout) != 0) /* after each line, so that a call that ends the program loses no answer before it */
+            return 1;
     }
     return 0;
 }

@@ -18,7 +18,7 @@ static void load_note(unsigned note) {
         return; /* a missing file delivers nothing */
     size_t n;
     while ((n = read_some(f)) > 0)
-        if (vs_deliver_in_place(&session, note, piece, n).no != VS_ACCEPTED || n < PIECE)
+        if (vs_deliver_in_place(&session, note, piece, n).number != VS_ACCEPTED || n < PIECE)
             break;
     fclose(f);
 }
@@ -33,13 +33,13 @@ int main(int argc, char **argv) {
     size_t n = f ? read_some(f) : 0;
     if (f)
         fclose(f);
-    vs_judged sheet = vs_sheet_read_in_place(&session, piece, n);
-    if (sheet.no != VS_ACCEPTED) {
-        printf("refused\t%u\t%u\n", sheet.no, sheet.line);
+    vs_verdict sheet = vs_sheet_read_in_place(&session, piece, n);
+    if (sheet.number != VS_ACCEPTED) {
+        printf("refused\t%u\t%u\n", sheet.number, sheet.line);
         return 0;
     }
     for (unsigned note = 1; note <= VS_NOTES; note++) {
-        if (vs_ask_in_place(&session, note).no != VS_ACCEPTED)
+        if (vs_ask_in_place(&session, note).number != VS_ACCEPTED)
             continue;
         load_note(note);
         vs_answer a = vs_ask_in_place(&session, note);

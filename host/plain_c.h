@@ -7,10 +7,11 @@
 
 typedef struct file FILE;
 extern FILE *stdin, *stdout, *stderr;
-char *fgets(char *line, int size, FILE *from);
+int fgetc(FILE *from);
 int fputs(const char *text, FILE *to);
 int fputc(int c, FILE *to);
 int printf(const char *format, ...);
+int fflush(FILE *f);
 FILE *fopen(const char *path, const char *mode);
 int fclose(FILE *f);
 size_t fread(void *to, size_t size, size_t count, FILE *from);
@@ -20,7 +21,6 @@ int memcmp(const void *a, const void *b, size_t n);
 size_t strlen(const char *s);
 int strcmp(const char *a, const char *b);
 char *strchr(const char *s, int c);
-char *strtok_r(char *s, const char *parts, char **rest);
 unsigned long long strtoull(const char *s, char **end, int base);
 int snprintf(char *to, size_t size, const char *format, ...);
 int chdir(const char *path);

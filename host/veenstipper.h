@@ -2,7 +2,7 @@
  *
  * Every function may be handed any bytes, any state and any session at all: it ends, reads and writes only inside what it is lent, and
  * refuses bad input by a number (VS_ACCEPTED is 0). The library keeps nothing between calls, allocates nothing and calls nothing but
- * memcpy and memset, which the host supplies. It is built for x86-64 Linux (System V); docs/FRAMES.md has the stack that each call takes.
+ * memcpy and memset, which the host supplies.
  *
  * What the host sees to:
  * - A slice is a pointer and a number of bytes. The pointer is never null, not even of an empty slice.
@@ -12,10 +12,19 @@
  * - Calls on different states and sessions may run at once. A call writes a state or session that it is lent without const even when it
  *   refuses: it writes what was there.
  *
+ * The machine: x86-64, called as System V says, with SSE2 on: the code uses xmm registers, and an interrupt that does so must save them.
+ * - Leaf functions use the red zone, the 128 bytes below the stack pointer: whatever interrupts a call must step over them before it writes to
+ *   the same stack. An operating system does so. On bare metal the processor does not, for it pushes its frame right below the stack pointer:
+ *   there an interrupt that may come during a call runs on a stack of its own (an IST entry), or is held off for the call.
+ * - Memory: a session is 5,120 bytes, a hash state 104. docs/FRAMES.md has the stack that each call takes, the red zone included. On top of its
+ *   totals come what the host's memcpy and memset take, and the return address of the call to them.
+ * - Nothing is claimed of how long a call takes, a comparison too: it looks at all 32 bytes whatever it finds, and no more is said.
+ *
  * States and sessions are plain values: copy them and store them. Compare them field by field, since the padding between fields is free. A
  * session of all zero bytes lists no note. A stored state is in order when total is at most 2^61 - 1 and the tail bytes behind the first
- * total % 64 are zero; a stored slot is in order when its length is even, 2 to 4294967294, its loop obeys start < end <= length / 2, and its
- * state is in order with total below length (waiting) or the fresh one (open, shut). What is not in order is refused (6, 9), never used.
+ * total % 64 are zero; a stored slot is in order when its length is even, 2 to 4294967294, its loop obeys loop_start < loop_end <= length / 2,
+ * and its state is in order with total below length (waiting) or the fresh one (open, shut). What is not in order is refused (6, 9), never used.
+ * What is in order is believed, an open slot too: what a status says holds of sessions that only these functions wrote.
  */
 #ifndef VEENSTIPPER_H
 #define VEENSTIPPER_H
@@ -81,35 +90,38 @@ typedef struct {
 } vs_hash;
 
 typedef struct {
-    uint8_t no;
+    uint8_t number;
     vs_hash state;
 } vs_updated;
 
 typedef struct {
-    uint8_t no;
+    uint8_t number;
     uint8_t bytes[VS_DIGEST];
 } vs_digest;
 
 typedef struct {
-    uint8_t no;
+    uint8_t number;
     bool same;
 } vs_compared;
 
 typedef struct {
-    uint8_t no;
+    uint8_t number;
     size_t count;
 } vs_written;
 
-/* Where a block lies: which 1 in the message, 2 in the tail buffer, 64 bytes from offset; refused: which, offset and length 0. */
+/* Where a block lies: 64 bytes from offset, in the message or in the tail buffer; refused: VS_IN_NEITHER, offset and length 0. */
+#define VS_IN_NEITHER 0
+#define VS_IN_MESSAGE 1
+#define VS_IN_BUFFER 2
 typedef struct {
     uint8_t which;
     size_t offset;
     size_t length;
-} vs_part;
+} vs_place;
 
 /* What a sheet's line says of a note: length in bytes, loop in frames of two bytes. */
 typedef struct {
-    uint32_t length, start, end;
+    uint32_t length, loop_start, loop_end;
     uint8_t digest[VS_DIGEST];
 } vs_record;
 
@@ -125,7 +137,7 @@ typedef struct {
 } vs_session;
 
 typedef struct {
-    uint8_t no;
+    uint8_t number;
     uint8_t status;
     uint64_t taken;
 } vs_answer;
@@ -135,17 +147,16 @@ typedef struct {
     vs_session session;
 } vs_delivered;
 
+/* What is said of a sheet: its number, and the line that decided (0 where it is accepted). */
 typedef struct {
-    uint8_t no;
+    uint8_t number;
     uint32_t line;
+} vs_verdict;
+
+typedef struct {
+    vs_verdict verdict;
     vs_session session;
 } vs_sheet;
-
-/* What reading a sheet into a lent session answers. */
-typedef struct {
-    uint8_t no;
-    uint32_t line;
-} vs_judged;
 
 /* The layout that the library was compiled with: a host whose compiler lays these out otherwise does not compile. */
 #ifdef __cplusplus
@@ -160,7 +171,7 @@ VS_LAYOUT(sizeof(vs_updated) == 112);
 VS_LAYOUT(sizeof(vs_digest) == 33);
 VS_LAYOUT(sizeof(vs_compared) == 2);
 VS_LAYOUT(sizeof(vs_written) == 16);
-VS_LAYOUT(sizeof(vs_part) == 24);
+VS_LAYOUT(sizeof(vs_place) == 24);
 VS_LAYOUT(sizeof(vs_record) == 44);
 VS_LAYOUT(offsetof(vs_slot, state) == 48);
 VS_LAYOUT(offsetof(vs_slot, status) == 152);
@@ -168,13 +179,13 @@ VS_LAYOUT(sizeof(vs_slot) == 160);
 VS_LAYOUT(sizeof(vs_session) == 5120);
 VS_LAYOUT(sizeof(vs_answer) == 16);
 VS_LAYOUT(sizeof(vs_delivered) == 5136);
+VS_LAYOUT(sizeof(vs_verdict) == 8);
 VS_LAYOUT(sizeof(vs_sheet) == 5128);
-VS_LAYOUT(sizeof(vs_judged) == 8);
 
 /* ---- SM3 -------------------------------------------------------------------------------------------------------------------------- */
 
 /* The whole blocks of 64 bytes folded into eight words; bytes after the last whole block are not looked at. */
-vs_words vs_fold(vs_words words, const uint8_t *bytes, size_t length);
+vs_words vs_fold(vs_words words, const uint8_t *bytes, size_t bytes_length);
 
 /* The state of a message of which nothing has come. */
 vs_hash vs_fresh(void);
@@ -197,17 +208,17 @@ vs_compared vs_compare_state(vs_hash state, const uint8_t *expected, size_t expe
 
 /* ---- Padded blocks ---------------------------------------------------------------------------------------------------------------- */
 
-/* Writes the message's last length % 64 bytes and the padding to the front of the buffer; count says how many bytes that are, 64 or 128.
+/* Writes the message's last message_length % 64 bytes and the padding to the front of the buffer; count says how many bytes that are, 64 or 128.
  * Later bytes of the buffer keep their content. Refusals 10, 11: count 0, buffer untouched. A buffer of 128 bytes always does. */
 vs_written vs_pad_write(const uint8_t *message, size_t message_length, uint8_t *buffer, size_t buffer_length);
 
 /* Block i of the padded message, given the message and the buffer that vs_pad_write filled: its number (10, 11, 13, 12), and where it lies. */
 uint8_t vs_block_number(const uint8_t *message, size_t message_length, const uint8_t *buffer, size_t buffer_length, size_t i);
-vs_part vs_block_part(const uint8_t *message, size_t message_length, const uint8_t *buffer, size_t buffer_length, size_t i);
+vs_place vs_block_part(const uint8_t *message, size_t message_length, const uint8_t *buffer, size_t buffer_length, size_t i);
 
 /* Whether bytes are a padded message (0 or 14), and how many of them, from the first, are the message (0 where they are not one). */
-uint8_t vs_remove_number(const uint8_t *bytes, size_t length);
-size_t vs_remove_part(const uint8_t *bytes, size_t length);
+uint8_t vs_remove_number(const uint8_t *bytes, size_t bytes_length);
+size_t vs_remove_part(const uint8_t *bytes, size_t bytes_length);
 
 /* ---- The rank sheet and the loading session ---------------------------------------------------------------------------------------- */
 
@@ -215,7 +226,7 @@ size_t vs_remove_part(const uint8_t *bytes, size_t length);
 vs_sheet vs_sheet_read(const uint8_t *text, size_t text_length);
 
 /* The same into a lent session, whatever it held: under 1 KB of stack where the call by value takes over 5 KB. */
-vs_judged vs_sheet_read_in_place(vs_session *session, const uint8_t *text, size_t text_length);
+vs_verdict vs_sheet_read_in_place(vs_session *session, const uint8_t *text, size_t text_length);
 
 /* A piece of a note's bytes. Refusals 5, 6, 7, 8: the session as it was. A note is open (VS_OPEN) from the moment its last byte is in and
  * the digest fits, shut (VS_SHUT) if it does not fit, and stays so. */
