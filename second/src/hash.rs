@@ -1,6 +1,7 @@
 //! The hash state, the one-call digest and the comparisons.
 
 use crate::padding;
+use crate::refusal::{ACCEPTED, STATE_NOT_IN_ORDER, TOO_LONG, WRONG_SIZE};
 use crate::sm3;
 
 /// A hash state. Every field is free: a state may be handed in with any
@@ -45,18 +46,18 @@ impl State {
     /// The number of an update by a piece of this length.
     pub fn update_number(&self, piece_length: u64) -> u8 {
         if !self.in_order() {
-            return 9;
+            return STATE_NOT_IN_ORDER;
         }
         if u128::from(self.total) + u128::from(piece_length) > u128::from(padding::LONGEST) {
-            return 10;
+            return TOO_LONG;
         }
-        0
+        ACCEPTED
     }
 
     /// Takes a piece, or refuses it and stays the same.
     pub fn update(&mut self, piece: &[u8]) -> u8 {
         let number = self.update_number(piece.len() as u64);
-        if number != 0 {
+        if number != ACCEPTED {
             return number;
         }
         let mut bytes = self.tail[..self.kept()].to_vec();
@@ -66,29 +67,37 @@ impl State {
         self.total += piece.len() as u64;
         self.tail = [0; 64];
         self.tail[..rest.len()].copy_from_slice(rest);
-        0
+        ACCEPTED
     }
 
     /// The digest of what was taken; the state is left as it was.
     pub fn finish(&self) -> Digested {
         if !self.in_order() {
-            return refused_digest(9);
+            return refused_digest(STATE_NOT_IN_ORDER);
         }
         let mut bytes = self.tail[..self.kept()].to_vec();
         bytes.extend_from_slice(&padding::added(self.total));
         Digested {
-            number: 0,
+            number: ACCEPTED,
             digest: sm3::to_bytes(&sm3::fold(&self.words, &bytes)),
         }
     }
 
+    /// The number of a comparison with an expected digest of this length.
+    pub fn compare_number(&self, expected_length: u64) -> u8 {
+        if !self.in_order() {
+            return STATE_NOT_IN_ORDER;
+        }
+        expected_number(expected_length)
+    }
+
     /// Compares the digest of what was taken with an expected one.
     pub fn compare(&self, expected: &[u8]) -> Compared {
-        let ended = self.finish();
-        if ended.number != 0 {
-            return refused_comparison(ended.number);
+        let number = self.compare_number(expected.len() as u64);
+        if number != ACCEPTED {
+            return refused_comparison(number);
         }
-        compare_digest(&ended.digest, expected)
+        compare_digest(&self.finish().digest, expected)
     }
 
     fn kept(&self) -> usize {
@@ -100,54 +109,59 @@ impl State {
 /// through a state, so that the two ways can be held against each other.
 pub fn digest(message: &[u8]) -> Digested {
     let number = padding::length_number(message.len() as u64);
-    if number != 0 {
+    if number != ACCEPTED {
         return refused_digest(number);
     }
     let words = sm3::fold(&sm3::START, &padding::padded(message));
     Digested {
-        number: 0,
+        number: ACCEPTED,
         digest: sm3::to_bytes(&words),
     }
 }
 
 /// The number of a one-call comparison, which lengths alone decide.
 pub fn compare_number(message_length: u64, expected_length: u64) -> u8 {
-    if padding::length_number(message_length) != 0 {
-        return 10;
+    let number = padding::length_number(message_length);
+    if number != ACCEPTED {
+        return number;
     }
-    if expected_length != 32 {
-        return 11;
-    }
-    0
+    expected_number(expected_length)
 }
 
 /// Compares the digest of a whole message with an expected one.
 pub fn compare(message: &[u8], expected: &[u8]) -> Compared {
     let number = compare_number(message.len() as u64, expected.len() as u64);
-    if number != 0 {
+    if number != ACCEPTED {
         return refused_comparison(number);
     }
     compare_digest(&digest(message).digest, expected)
 }
 
-fn compare_digest(digest: &[u8; 32], expected: &[u8]) -> Compared {
-    if expected.len() != 32 {
-        return refused_comparison(11);
+fn expected_number(length: u64) -> u8 {
+    if length == 32 {
+        ACCEPTED
+    } else {
+        WRONG_SIZE
     }
+}
+
+fn compare_digest(digest: &[u8; 32], expected: &[u8]) -> Compared {
     Compared {
-        number: 0,
+        number: ACCEPTED,
         same: digest[..] == *expected,
     }
 }
 
-fn refused_digest(number: u8) -> Digested {
+/// What a refused call for a digest answers.
+pub fn refused_digest(number: u8) -> Digested {
     Digested {
         number,
         digest: [0; 32],
     }
 }
 
-fn refused_comparison(number: u8) -> Compared {
+/// What a refused comparison answers.
+pub fn refused_comparison(number: u8) -> Compared {
     Compared {
         number,
         same: false,

@@ -3,15 +3,18 @@
 //! It exists to disagree with the proved one where one of the two is wrong, so
 //! it is plain and slow, and shares neither code nor table with it.
 //!
-//! The drivers `folders` and `calls` hold the two against each other.
+//! The drivers `folders`, `calls` and `orders` hold the two against each other.
 
 pub mod calls;
+pub mod examples;
 pub mod folders;
 pub mod hash;
 pub mod making;
 pub mod options;
+pub mod orders;
 pub mod padding;
 pub mod program;
+pub mod refusal;
 pub mod report;
 pub mod session;
 pub mod sheet;

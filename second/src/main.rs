@@ -2,16 +2,17 @@
 //! program and library.
 
 use second::options::Options;
-use second::{calls, folders};
+use second::{calls, folders, orders};
 use std::ffi::OsString;
 use std::io::Write;
 use std::path::Path;
 use std::process::ExitCode;
 
-const USE: &str = "use `second vectors DIR FILE...`, `second load DIR`, \
+const USE: &str = "use `second vectors DIR FILE...`, `second examples`, `second load DIR`, \
      `second folders [--slip NAME] COUNT SEED PROGRAM [WORDS..]`, \
-     `second calls [--slip NAME] [--without NAME,..] [--narrow] COUNT SEED PROGRAM [WORDS..]`, \
-     `second print-calls [--without NAME,..] [--narrow] COUNT SEED`, or `second answer-calls`";
+     `second calls [--slip NAME] [--without NAME,..] COUNT SEED PROGRAM [WORDS..]`, \
+     `second orders [--slip NAME] COUNT SEED PROGRAM [WORDS..]`, \
+     `second print-calls [--without NAME,..] COUNT SEED`, or `second answer-calls`";
 
 fn main() -> ExitCode {
     let arguments: Vec<OsString> = std::env::args_os().skip(1).collect();
@@ -24,9 +25,11 @@ fn main() -> ExitCode {
             let run = second::vectors::run(Path::new(folder), &files);
             print(run.printed.as_bytes(), run.good)
         }
+        (Some("examples"), [_]) => print(second::examples::printed().as_bytes(), true),
         (Some("answer-calls"), [_]) => answer_calls(),
         (Some("folders"), [_, rest @ ..]) => drive(rest, folders::run),
         (Some("calls"), [_, rest @ ..]) => drive(rest, calls::run),
+        (Some("orders"), [_, rest @ ..]) => drive(rest, orders::run),
         (Some("print-calls"), [_, rest @ ..]) => {
             // No program is started, but its place in the arguments is filled.
             let rest = [rest, &[OsString::new()]].concat();

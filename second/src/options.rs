@@ -4,7 +4,7 @@ use std::ffi::OsString;
 use std::path::Path;
 use std::process::Command;
 
-/// `[--slip NAME] [--without NAME,..] [--narrow] COUNT SEED PROGRAM [WORDS..]`;
+/// `[--slip NAME] [--without NAME,..] COUNT SEED PROGRAM [WORDS..]`;
 /// everything after PROGRAM is the program's own.
 pub struct Options {
     pub count: u64,
@@ -15,8 +15,6 @@ pub struct Options {
     pub slip: Option<String>,
     /// Calls that the program does not have.
     pub without: Vec<String>,
-    /// Records' numbers stay below 2^32.
-    pub narrow: bool,
 }
 
 impl Options {
@@ -33,7 +31,6 @@ impl Options {
                     let names = rest.next()?.to_str()?.split(',');
                     options.without.extend(names.map(str::to_string));
                 }
-                Some("--narrow") => options.narrow = true,
                 Some(word) if numbers.len() < 2 => numbers.push(word.parse().ok()?),
                 _ if numbers.len() < 2 => return None,
                 _ => {
@@ -56,7 +53,6 @@ impl Options {
             words: Vec::new(),
             slip: None,
             without: Vec::new(),
-            narrow: false,
         }
     }
 

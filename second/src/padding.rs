@@ -4,6 +4,8 @@
 //! that lengths no machine can hold are tested too. Sums are made in 128 bits,
 //! where none of them can overflow.
 
+use crate::refusal::{ACCEPTED, NOT_PADDED, NO_SUCH_BLOCK, OTHER_TAIL, TOO_LONG, WRONG_SIZE};
+
 /// The longest message in bytes: eight times it still fits 64 bits.
 pub const LONGEST: u64 = (1 << 61) - 1;
 
@@ -14,39 +16,107 @@ pub struct Written {
     pub count: usize,
 }
 
-/// Which of the lent buffers a part lies in.
+/// Which of the lent slices a part lies in.
 #[derive(Clone, Copy, Debug, PartialEq, Eq)]
-pub enum Source {
+pub enum Which {
     Neither,
     Message,
-    Tail,
+    Buffer,
 }
 
-/// A part of a lent buffer, named and not copied.
+/// Where a part of a lent slice lies: it is named and not copied.
 #[derive(Clone, Copy, Debug, PartialEq, Eq)]
-pub struct Part {
-    pub source: Source,
+pub struct Place {
+    pub which: Which,
     pub offset: u64,
     pub length: u64,
 }
 
-impl Part {
-    /// The part of a refused call.
-    pub const EMPTY: Part = Part {
-        source: Source::Neither,
+impl Place {
+    /// The empty part of a refused call.
+    pub const EMPTY: Place = Place {
+        which: Which::Neither,
         offset: 0,
         length: 0,
     };
 
-    /// The bytes named, out of the two buffers that were lent.
-    pub fn bytes<'a>(&self, message: &'a [u8], tail: &'a [u8]) -> &'a [u8] {
+    /// The bytes there, out of the two slices that were lent.
+    pub fn bytes<'a>(&self, message: &'a [u8], buffer: &'a [u8]) -> &'a [u8] {
         let from = self.offset as usize;
         let to = from + self.length as usize;
-        match self.source {
-            Source::Neither => &[],
-            Source::Message => &message[from..to],
-            Source::Tail => &tail[from..to],
+        match self.which {
+            Which::Neither => &[],
+            Which::Message => &message[from..to],
+            Which::Buffer => &buffer[from..to],
         }
+    }
+}
+
+/// All that the padding needs of a message: its length, and its last
+/// `length % 64` bytes. A message that no machine holds has them too.
+#[derive(Clone, Copy)]
+pub struct End<'a> {
+    length: u64,
+    kept: &'a [u8],
+}
+
+impl<'a> End<'a> {
+    pub fn of(message: &'a [u8]) -> End<'a> {
+        End {
+            length: message.len() as u64,
+            kept: &message[message.len() - message.len() % 64..],
+        }
+    }
+
+    /// The end of a message that is only known to have this length, where none
+    /// of its bytes are needed.
+    pub fn of_length(length: u64) -> Option<End<'a>> {
+        length
+            .is_multiple_of(64)
+            .then_some(End { length, kept: &[] })
+    }
+
+    /// What the writer puts at the front of the tail buffer.
+    fn tail_content(&self) -> Vec<u8> {
+        [self.kept, &added(self.length)].concat()
+    }
+
+    /// Puts the message's last bytes and the padding at the buffer's front.
+    pub fn write(&self, buffer: &mut [u8]) -> Written {
+        let number = write_number(self.length, buffer.len() as u64);
+        if number != ACCEPTED {
+            return Written { number, count: 0 };
+        }
+        let front = self.tail_content();
+        buffer[..front.len()].copy_from_slice(&front);
+        Written {
+            number,
+            count: front.len(),
+        }
+    }
+
+    /// The number of a block view.
+    pub fn view_number(&self, buffer: &[u8], block: u64) -> u8 {
+        let number = write_number(self.length, buffer.len() as u64);
+        if number != ACCEPTED {
+            return number;
+        }
+        // The tail buffer is judged for every block, also one inside the message.
+        if buffer[..tail_size(self.length)] != self.tail_content()[..] {
+            return OTHER_TAIL;
+        }
+        if u128::from(block) >= block_count(self.length) {
+            return NO_SUCH_BLOCK;
+        }
+        ACCEPTED
+    }
+
+    /// The place of a block view.
+    pub fn view_place(&self, buffer: &[u8], block: u64) -> Place {
+        if self.view_number(buffer, block) != ACCEPTED {
+            return Place::EMPTY;
+        }
+        block_place(self.length, block)
     }
 }
 
@@ -64,24 +134,22 @@ pub fn tail_size(bytes: u64) -> usize {
     }
 }
 
-/// 10 for a message too long, else 0.
+/// The number of a message by its length.
 pub fn length_number(bytes: u64) -> u8 {
     if bytes > LONGEST {
-        10
+        TOO_LONG
     } else {
-        0
+        ACCEPTED
     }
 }
 
 /// The writer's number, which lengths alone decide.
-pub fn write_number(bytes: u64, tail_length: u64) -> u8 {
-    if length_number(bytes) != 0 {
-        return 10;
+pub fn write_number(bytes: u64, buffer_length: u64) -> u8 {
+    let number = length_number(bytes);
+    if number == ACCEPTED && buffer_length < tail_size(bytes) as u64 {
+        return WRONG_SIZE;
     }
-    if tail_length < tail_size(bytes) as u64 {
-        return 11;
-    }
-    0
+    number
 }
 
 /// The bytes added to a message of `bytes` bytes, at most [`LONGEST`].
@@ -103,55 +171,31 @@ pub fn padded(message: &[u8]) -> Vec<u8> {
 }
 
 /// Puts the message's last bytes and the padding at the buffer's front.
-pub fn write(message: &[u8], tail: &mut [u8]) -> Written {
-    let number = write_number(message.len() as u64, tail.len() as u64);
-    if number != 0 {
-        return Written { number, count: 0 };
-    }
-    let front = tail_content(message);
-    tail[..front.len()].copy_from_slice(&front);
-    Written {
-        number: 0,
-        count: front.len(),
-    }
+pub fn write(message: &[u8], buffer: &mut [u8]) -> Written {
+    End::of(message).write(buffer)
 }
 
 /// The number of a block view.
-pub fn view_number(message: &[u8], tail: &[u8], block: u64) -> u8 {
-    let bytes = message.len() as u64;
-    let number = write_number(bytes, tail.len() as u64);
-    if number != 0 {
-        return number;
-    }
-    // The tail buffer is judged for every block, also one inside the message.
-    if tail[..tail_size(bytes)] != tail_content(message)[..] {
-        return 13;
-    }
-    if u128::from(block) >= block_count(bytes) {
-        return 12;
-    }
-    0
+pub fn view_number(message: &[u8], buffer: &[u8], block: u64) -> u8 {
+    End::of(message).view_number(buffer, block)
 }
 
-/// The part of a block view.
-pub fn view_part(message: &[u8], tail: &[u8], block: u64) -> Part {
-    if view_number(message, tail, block) != 0 {
-        return Part::EMPTY;
-    }
-    place(message.len() as u64, block)
+/// The place of a block view.
+pub fn view_place(message: &[u8], buffer: &[u8], block: u64) -> Place {
+    End::of(message).view_place(buffer, block)
 }
 
 /// Where a block lies, for a block number below the block count.
-pub fn place(bytes: u64, block: u64) -> Part {
+pub fn block_place(bytes: u64, block: u64) -> Place {
     if (u128::from(block) + 1) * 64 <= u128::from(bytes) {
-        return Part {
-            source: Source::Message,
+        return Place {
+            which: Which::Message,
             offset: 64 * block,
             length: 64,
         };
     }
-    Part {
-        source: Source::Tail,
+    Place {
+        which: Which::Buffer,
         offset: 64 * (block - bytes / 64),
         length: 64,
     }
@@ -160,8 +204,8 @@ pub fn place(bytes: u64, block: u64) -> Part {
 /// The number of a removal.
 pub fn remove_number(bytes: &[u8]) -> u8 {
     match message_length(bytes) {
-        Some(_) => 0,
-        None => 14,
+        Some(_) => ACCEPTED,
+        None => NOT_PADDED,
     }
 }
 
@@ -194,12 +238,4 @@ fn message_length(bytes: &[u8]) -> Option<usize> {
     let (_, rest) = body.split_at(length as usize);
     let marked = rest[0] == 0x80 && rest[1..].iter().all(|byte| *byte == 0);
     marked.then_some(length as usize)
-}
-
-/// What the writer puts at the front of the tail buffer.
-fn tail_content(message: &[u8]) -> Vec<u8> {
-    let kept = message.len() % 64;
-    let mut content = message[message.len() - kept..].to_vec();
-    content.extend_from_slice(&added(message.len() as u64));
-    content
 }

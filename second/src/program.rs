@@ -1,8 +1,9 @@
 //! The program: reads a folder's sheet and samples, and says what became of
 //! each note.
 
+use crate::refusal::ACCEPTED;
 use crate::session::{Session, NONE, NOTES, OPEN, SHUT, WAITING};
-use crate::sheet::{self, Sheet};
+use crate::sheet::{self, Verdict};
 use std::fs::File;
 use std::io::{ErrorKind, Read};
 use std::path::Path;
@@ -14,8 +15,8 @@ pub const PIECE: usize = 4096;
 pub fn load(folder: &Path) -> Vec<u8> {
     let text = read_text(&folder.join("rank.txt"));
     let sheet = sheet::read(&text);
-    if sheet.number != 0 {
-        return refused(&sheet);
+    if sheet.verdict.number != ACCEPTED {
+        return refused(&sheet.verdict);
     }
     let mut session = sheet.session;
     let mut printed = String::new();
@@ -32,11 +33,12 @@ pub fn load(folder: &Path) -> Vec<u8> {
 }
 
 /// The one line that is printed for a refused sheet.
-pub fn refused(sheet: &Sheet) -> Vec<u8> {
-    format!("refused\t{}\t{}\n", sheet.number, sheet.line).into_bytes()
+pub fn refused(verdict: &Verdict) -> Vec<u8> {
+    format!("refused\t{}\t{}\n", verdict.number, verdict.line).into_bytes()
 }
 
-fn word(status: u8) -> &'static str {
+/// How the program says a status.
+pub fn word(status: u8) -> &'static str {
     match status {
         WAITING => "waiting",
         OPEN => "open",
@@ -61,7 +63,7 @@ fn deliver_file(session: &mut Session, note: u64, folder: &Path) {
     loop {
         let piece = read_piece(&mut file);
         // Nothing left after full pieces: no empty piece is delivered.
-        if piece.is_empty() || session.deliver(note, &piece).number != 0 {
+        if piece.is_empty() || session.deliver(note, &piece).number != ACCEPTED {
             return;
         }
         if piece.len() < PIECE {

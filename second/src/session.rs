@@ -1,6 +1,7 @@
 //! The loading session: 32 slots, deliveries and questions.
 
 use crate::hash::State;
+use crate::refusal::{ACCEPTED, DECIDED, PAST_LENGTH, SLOT_NOT_IN_ORDER, UNLISTED};
 
 /// Statuses a slot may have. Any other counts as listed and not in order.
 pub const NONE: u8 = 0;
@@ -96,17 +97,17 @@ impl Slot {
     /// A delivery to a slot that is listed and in order.
     fn deliver(&mut self, piece: &[u8]) -> u8 {
         if self.status != WAITING {
-            return 7;
+            return DECIDED;
         }
         if exceeds(self.state.total, piece.len() as u64, self.record.length) {
-            return 8;
+            return PAST_LENGTH;
         }
         let number = self.state.update(piece);
-        assert_eq!(number, 0, "a slot in order takes what fits");
+        assert_eq!(number, ACCEPTED, "a slot in order takes what fits");
         if self.state.total == self.record.length {
             self.decide();
         }
-        0
+        ACCEPTED
     }
 
     fn decide(&mut self) {
@@ -149,18 +150,18 @@ impl Session {
     pub fn ask(&self, note: u64) -> Answer {
         match self.usable(note) {
             Err(number) => refused(number),
-            Ok(place) => self.answer(0, place),
+            Ok(place) => self.answer(ACCEPTED, place),
         }
     }
 
-    /// The place of a listed slot in order, or refusal 5 or 6.
+    /// The place of a listed slot in order, or what refuses it.
     fn usable(&self, note: u64) -> Result<usize, u8> {
-        let place = Session::place(note).ok_or(5)?;
+        let place = Session::place(note).ok_or(UNLISTED)?;
         if self.slots[place].status == NONE {
-            return Err(5);
+            return Err(UNLISTED);
         }
         if !self.slots[place].in_order() {
-            return Err(6);
+            return Err(SLOT_NOT_IN_ORDER);
         }
         Ok(place)
     }

@@ -1,53 +1,51 @@
 //! The rank sheet reader.
 
+use crate::refusal::{ACCEPTED, BAD_LENGTH, BAD_LOOP, COUNT_OR_NOTE, FORM};
 use crate::session::{Record, Session, NOTES};
 
 /// The greatest number a sheet may write.
 pub const GREATEST: u64 = 4294967295;
 
-const FORM: u8 = 1;
-const COUNT_OR_NOTE: u8 = 2;
-const LENGTH: u8 = 3;
-const LOOP: u8 = 4;
-
-/// A number, the line that decides (0 when accepted), and the session.
+/// A number, and the line that decides, 0 when accepted.
 #[derive(Clone, Copy, Debug, PartialEq, Eq)]
-pub struct Sheet {
+pub struct Verdict {
     pub number: u8,
     pub line: u64,
-    pub session: Session,
 }
 
-struct Fault {
-    number: u8,
-    line: u64,
+/// What is said of a sheet, and its session.
+#[derive(Clone, Copy, Debug, PartialEq, Eq)]
+pub struct Sheet {
+    pub verdict: Verdict,
+    pub session: Session,
 }
 
 /// Reads a sheet. A refused one lists no note.
 pub fn read(text: &[u8]) -> Sheet {
     match read_lines(text) {
         Ok(session) => Sheet {
-            number: 0,
-            line: 0,
+            verdict: Verdict {
+                number: ACCEPTED,
+                line: 0,
+            },
             session,
         },
-        Err(fault) => Sheet {
-            number: fault.number,
-            line: fault.line,
+        Err(verdict) => Sheet {
+            verdict,
             session: Session::unlisted(),
         },
     }
 }
 
-fn read_lines(text: &[u8]) -> Result<Session, Fault> {
+fn read_lines(text: &[u8]) -> Result<Session, Verdict> {
     let (first, mut rest) = cut_line(text, 1)?;
-    let count = read_first(first).map_err(|number| Fault { number, line: 1 })?;
+    let count = read_first(first).map_err(|number| Verdict { number, line: 1 })?;
     let mut session = Session::unlisted();
     let mut last_note = 0;
     for line in 2..count + 2 {
         let (content, after) = cut_line(rest, line)?;
         let (note, record) =
-            read_note(content, last_note).map_err(|number| Fault { number, line })?;
+            read_note(content, last_note).map_err(|number| Verdict { number, line })?;
         session.list(note, record);
         last_note = note;
         rest = after;
@@ -55,7 +53,7 @@ fn read_lines(text: &[u8]) -> Result<Session, Fault> {
     if rest.is_empty() {
         return Ok(session);
     }
-    Err(Fault {
+    Err(Verdict {
         number: FORM,
         line: count + 2,
     })
@@ -63,10 +61,10 @@ fn read_lines(text: &[u8]) -> Result<Session, Fault> {
 
 /// Parts a line from what follows its LF. A line without LF is a form fault
 /// whatever it holds, for form is judged first.
-fn cut_line(text: &[u8], line: u64) -> Result<(&[u8], &[u8]), Fault> {
+fn cut_line(text: &[u8], line: u64) -> Result<(&[u8], &[u8]), Verdict> {
     match text.iter().position(|byte| *byte == b'\n') {
         Some(end) => Ok((&text[..end], &text[end + 1..])),
-        None => Err(Fault { number: FORM, line }),
+        None => Err(Verdict { number: FORM, line }),
     }
 }
 
@@ -103,10 +101,10 @@ fn read_note(line: &[u8], last_note: u64) -> Result<(u64, Record), u8> {
         return Err(COUNT_OR_NOTE);
     }
     if !record.length_allowed() {
-        return Err(LENGTH);
+        return Err(BAD_LENGTH);
     }
     if !record.loop_allowed() {
-        return Err(LOOP);
+        return Err(BAD_LOOP);
     }
     Ok((note, record))
 }

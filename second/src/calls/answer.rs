@@ -3,7 +3,8 @@
 use crate::calls::call::Call;
 use crate::calls::values::{bytes_text, session_text, state_text, Lent};
 use crate::hash::{self, Compared, Digested, State};
-use crate::padding::{self, Part, Source};
+use crate::padding::{self, End, Place, Which, Written};
+use crate::refusal::{ACCEPTED, DECIDED, NOT_PADDED, PAST_LENGTH};
 use crate::session::{self, Answer, Session, WAITING};
 use crate::sheet::{self, Sheet};
 use crate::sm3;
@@ -13,14 +14,16 @@ use crate::sm3;
 pub fn answer(call: &Call) -> Option<String> {
     match call {
         Call::Fresh => Some(state_text(&State::fresh())),
-        Call::Fold { state, bytes } => Some(fold(state, bytes)),
+        Call::Fold { state, bytes } => fold(state, bytes),
         Call::Update { state, piece, .. } => update(state, piece),
         Call::Finish { state } => Some(digest_text(state.finish())),
         Call::Digest { message } => digest(message).map(digest_text),
         Call::CompareMessage { message, expected } => {
-            compare(message, expected).map(comparison_text)
+            compare_message(message, expected).map(comparison_text)
         }
-        Call::CompareState { state, expected } => Some(comparison_text(state.compare(expected))),
+        Call::CompareState { state, expected } => {
+            compare_state(state, expected).map(comparison_text)
+        }
         Call::PadWrite { message, buffer } => pad_write(message, buffer),
         Call::Block {
             part,
@@ -28,9 +31,9 @@ pub fn answer(call: &Call) -> Option<String> {
             buffer,
             block,
         } => block_view(*part, message, buffer, *block),
-        Call::Remove { part: false, bytes } => Some(padding::remove_number(bytes).to_string()),
-        Call::Remove { part: true, bytes } => Some(removed_text(padding::remove_part(bytes))),
-        Call::SheetRead { text, .. } => Some(sheet_text(&sheet::read(text))),
+        Call::Remove { part: false, bytes } => Some(remove_number(bytes)?.to_string()),
+        Call::Remove { part: true, bytes } => remove_part(bytes).map(removed_text),
+        Call::SheetRead { text, .. } => Some(sheet_text(&sheet::read(text.bytes()?))),
         Call::Deliver {
             session,
             note,
@@ -38,100 +41,146 @@ pub fn answer(call: &Call) -> Option<String> {
             ..
         } => deliver(session, *note, piece),
         Call::Ask { session, note, .. } => Some(answer_text(&session.ask(*note))),
+        Call::Line { line } => answer_line(line),
     }
 }
 
-/// Reads calls and answers each; a line that is no call is answered by `?`.
+/// What a line is answered that is no call.
+pub const NO_CALL: &str = "?";
+
+/// The answers to a line, which may be no call.
+fn answer_line(line: &[u8]) -> Option<String> {
+    match Call::parse(line) {
+        Some(call) => answer(&call),
+        None => Some(NO_CALL.to_string()),
+    }
+}
+
+/// Reads calls and answers each before the next. A last line without its LF
+/// may have been cut short and is no call. No call can be told what bytes hold
+/// that are not there; what then is said does not matter.
 pub fn answer_lines(
-    input: impl std::io::BufRead,
+    mut input: impl std::io::BufRead,
     mut out: impl std::io::Write,
 ) -> std::io::Result<()> {
-    for line in input.lines() {
-        let call = Call::parse(&line?);
-        let answers = call.as_ref().and_then(answer);
-        writeln!(out, "{}", answers.as_deref().unwrap_or("?"))?;
+    let mut line = Vec::new();
+    while input.read_until(b'\n', &mut line)? != 0 {
+        let whole = line.pop() == Some(b'\n');
+        let answers = if whole { answer_line(&line) } else { None };
+        writeln!(out, "{}", answers.as_deref().unwrap_or(NO_CALL))?;
+        out.flush()?;
+        line.clear();
     }
-    out.flush()
+    Ok(())
 }
 
-/// Only whole blocks are folded.
-fn fold(state: &State, bytes: &[u8]) -> String {
-    let whole = &bytes[..bytes.len() / 64 * 64];
-    bytes_text(&sm3::to_bytes(&sm3::fold(&state.words, whole)))
+/// Only whole blocks are folded, and nothing else is looked at.
+fn fold(state: &State, bytes: &Lent) -> Option<String> {
+    let whole = match bytes {
+        Lent::Absent(length) if *length < 64 => &[],
+        _ => {
+            let bytes = bytes.bytes()?;
+            &bytes[..bytes.len() / 64 * 64]
+        }
+    };
+    Some(bytes_text(&sm3::to_bytes(&sm3::fold(&state.words, whole))))
 }
 
 fn update(state: &State, piece: &Lent) -> Option<String> {
     let mut after = *state;
-    let number = match piece {
-        Lent::Bytes(bytes) => after.update(bytes),
-        Lent::Absent(length) => refused(state.update_number(*length))?,
+    let number = match state.update_number(piece.length()) {
+        ACCEPTED => after.update(piece.bytes()?),
+        refused => refused,
     };
     Some(updated_text(number, &after))
 }
 
-/// A number other than 0, the only ones that need no byte.
-fn refused(number: u8) -> Option<u8> {
-    (number != 0).then_some(number)
-}
-
 fn digest(message: &Lent) -> Option<Digested> {
-    match message {
-        Lent::Bytes(bytes) => Some(hash::digest(bytes)),
-        Lent::Absent(length) => Some(Digested {
-            number: refused(padding::length_number(*length))?,
-            digest: [0; 32],
-        }),
-    }
+    Some(match padding::length_number(message.length()) {
+        ACCEPTED => hash::digest(message.bytes()?),
+        refused => hash::refused_digest(refused),
+    })
 }
 
-fn compare(message: &Lent, expected: &[u8]) -> Option<Compared> {
+/// The message is hashed before the expected digest's length is looked at, so
+/// only a message that is too long need not be there.
+fn compare_message(message: &Lent, expected: &Lent) -> Option<Compared> {
+    if padding::length_number(message.length()) == ACCEPTED {
+        message.bytes()?;
+    }
+    Some(
+        match hash::compare_number(message.length(), expected.length()) {
+            ACCEPTED => hash::compare(message.bytes()?, expected.bytes()?),
+            refused => hash::refused_comparison(refused),
+        },
+    )
+}
+
+fn compare_state(state: &State, expected: &Lent) -> Option<Compared> {
+    Some(match state.compare_number(expected.length()) {
+        ACCEPTED => state.compare(expected.bytes()?),
+        refused => hash::refused_comparison(refused),
+    })
+}
+
+/// What the padding needs of a message, if that is there.
+fn end(message: &Lent) -> Option<End<'_>> {
     match message {
-        Lent::Bytes(bytes) => Some(hash::compare(bytes, expected)),
-        Lent::Absent(length) => Some(Compared {
-            number: refused(hash::compare_number(*length, expected.len() as u64))?,
-            same: false,
-        }),
+        Lent::Bytes(bytes) => Some(End::of(bytes)),
+        Lent::Absent(length) => End::of_length(*length),
     }
 }
 
 fn pad_write(message: &Lent, buffer: &[u8]) -> Option<String> {
     let mut after = buffer.to_vec();
-    let (number, count) = match message {
-        Lent::Bytes(bytes) => {
-            let written = padding::write(bytes, &mut after);
-            (written.number, written.count)
-        }
-        Lent::Absent(length) => {
-            let number = padding::write_number(*length, buffer.len() as u64);
-            (refused(number)?, 0)
-        }
+    let written = match padding::write_number(message.length(), buffer.len() as u64) {
+        ACCEPTED => end(message)?.write(&mut after),
+        number => Written { number, count: 0 },
     };
-    Some(written_text(number, count, &after))
+    Some(written_text(written.number, written.count, &after))
 }
 
-fn block_view(part: bool, message: &Lent, buffer: &[u8], block: u64) -> Option<String> {
-    match (message, part) {
-        (Lent::Bytes(bytes), false) => Some(padding::view_number(bytes, buffer, block).to_string()),
-        (Lent::Bytes(bytes), true) => {
-            let part = padding::view_part(bytes, buffer, block);
-            Some(part_text(&part, bytes, buffer))
+fn block_view(part: bool, message: &Lent, buffer: &Lent, block: u64) -> Option<String> {
+    let (number, place) = match padding::write_number(message.length(), buffer.length()) {
+        ACCEPTED => {
+            let (end, buffer) = (end(message)?, buffer.bytes()?);
+            (
+                end.view_number(buffer, block),
+                end.view_place(buffer, block),
+            )
         }
-        (Lent::Absent(length), _) => {
-            let number = refused(padding::write_number(*length, buffer.len() as u64))?;
-            Some(if part {
-                part_text(&Part::EMPTY, &[], buffer)
-            } else {
-                number.to_string()
-            })
-        }
+        refused => (refused, Place::EMPTY),
+    };
+    if !part {
+        return Some(number.to_string());
+    }
+    match place.which {
+        Which::Neither => Some(part_text(&place, &[], &[])),
+        Which::Message => Some(part_text(&place, message.bytes()?, &[])),
+        Which::Buffer => Some(part_text(&place, &[], buffer.bytes()?)),
+    }
+}
+
+/// A length that no padded message has is enough.
+fn remove_number(bytes: &Lent) -> Option<u8> {
+    match bytes {
+        Lent::Absent(length) if !length.is_multiple_of(64) => Some(NOT_PADDED),
+        _ => Some(padding::remove_number(bytes.bytes()?)),
+    }
+}
+
+fn remove_part(bytes: &Lent) -> Option<&[u8]> {
+    match remove_number(bytes)? {
+        ACCEPTED => Some(padding::remove_part(bytes.bytes()?)),
+        _ => Some(&[]),
     }
 }
 
 fn deliver(session: &Session, note: u64, piece: &Lent) -> Option<String> {
     let mut after = *session;
-    let answer = match piece {
-        Lent::Bytes(bytes) => after.deliver(note, bytes),
-        Lent::Absent(length) => deliver_absent(session, note, *length)?,
+    let answer = match piece.bytes() {
+        Some(bytes) => after.deliver(note, bytes),
+        None => deliver_absent(session, note, piece.length())?,
     };
     Some(delivered_text(&answer, &after))
 }
@@ -139,14 +188,20 @@ fn deliver(session: &Session, note: u64, piece: &Lent) -> Option<String> {
 /// A delivery that is refused before any byte is looked at.
 fn deliver_absent(session: &Session, note: u64, length: u64) -> Option<Answer> {
     let asked = session.ask(note);
-    if asked.number != 0 {
+    if asked.number != ACCEPTED {
         return Some(asked);
     }
     if asked.status != WAITING {
-        return Some(Answer { number: 7, ..asked });
+        return Some(Answer {
+            number: DECIDED,
+            ..asked
+        });
     }
     let record = session.slots[note as usize - 1].record;
-    session::exceeds(asked.taken, length, record.length).then_some(Answer { number: 8, ..asked })
+    session::exceeds(asked.taken, length, record.length).then_some(Answer {
+        number: PAST_LENGTH,
+        ..asked
+    })
 }
 
 pub fn updated_text(number: u8, after: &State) -> String {
@@ -165,14 +220,14 @@ pub fn written_text(number: u8, count: usize, buffer: &[u8]) -> String {
     format!("{number}\t{count}\t{}", bytes_text(buffer))
 }
 
-pub fn part_text(part: &Part, message: &[u8], buffer: &[u8]) -> String {
-    let which = match part.source {
-        Source::Neither => 0,
-        Source::Message => 1,
-        Source::Tail => 2,
+pub fn part_text(place: &Place, message: &[u8], buffer: &[u8]) -> String {
+    let which = match place.which {
+        Which::Neither => 0,
+        Which::Message => 1,
+        Which::Buffer => 2,
     };
-    let bytes = bytes_text(part.bytes(message, buffer));
-    format!("{which}\t{}\t{}\t{bytes}", part.offset, part.length)
+    let bytes = bytes_text(place.bytes(message, buffer));
+    format!("{which}\t{}\t{}\t{bytes}", place.offset, place.length)
 }
 
 /// The message is always the front of what was lent.
@@ -182,7 +237,10 @@ pub fn removed_text(part: &[u8]) -> String {
 
 pub fn sheet_text(sheet: &Sheet) -> String {
     let session = session_text(&sheet.session);
-    format!("{}\t{}\t{session}", sheet.number, sheet.line)
+    format!(
+        "{}\t{}\t{session}",
+        sheet.verdict.number, sheet.verdict.line
+    )
 }
 
 pub fn delivered_text(answer: &Answer, after: &Session) -> String {

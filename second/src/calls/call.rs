@@ -1,4 +1,5 @@
-//! A call of the library, and the line that asks for it.
+//! A call of the library, and the line that asks for it. A slice that is only
+//! read may be lent as a length alone.
 
 use crate::calls::values::{self, Lent};
 use crate::hash::State;
@@ -11,7 +12,7 @@ pub enum Call {
     Fresh,
     Fold {
         state: State,
-        bytes: Vec<u8>,
+        bytes: Lent,
     },
     Update {
         in_place: bool,
@@ -26,11 +27,11 @@ pub enum Call {
     },
     CompareMessage {
         message: Lent,
-        expected: Vec<u8>,
+        expected: Lent,
     },
     CompareState {
         state: State,
-        expected: Vec<u8>,
+        expected: Lent,
     },
     PadWrite {
         message: Lent,
@@ -39,17 +40,17 @@ pub enum Call {
     Block {
         part: bool,
         message: Lent,
-        buffer: Vec<u8>,
+        buffer: Lent,
         block: u64,
     },
     Remove {
         part: bool,
-        bytes: Vec<u8>,
+        bytes: Lent,
     },
     SheetRead {
         /// What stands behind the pointer before, for the call in place.
         before: Option<Box<Session>>,
-        text: Vec<u8>,
+        text: Lent,
     },
     Deliver {
         in_place: bool,
@@ -61,6 +62,10 @@ pub enum Call {
         in_place: bool,
         session: Box<Session>,
         note: u64,
+    },
+    /// A line as it stands, which may be no call at all.
+    Line {
+        line: Vec<u8>,
     },
 }
 
@@ -82,6 +87,7 @@ impl Call {
             }
             Call::Deliver { in_place, .. } => either(*in_place, "deliver_in_place", "deliver"),
             Call::Ask { in_place, .. } => either(*in_place, "ask_in_place", "ask"),
+            Call::Line { .. } => "line",
         }
     }
 
@@ -90,25 +96,25 @@ impl Call {
         use values::{bytes_text, lent_text, session_text, state_text};
         match self {
             Call::Fresh => vec![],
-            Call::Fold { state, bytes } => vec![state_text(state), bytes_text(bytes)],
+            Call::Fold { state, bytes } => vec![state_text(state), lent_text(bytes)],
             Call::Update { state, piece, .. } => vec![state_text(state), lent_text(piece)],
             Call::Finish { state } => vec![state_text(state)],
             Call::Digest { message } => vec![lent_text(message)],
             Call::CompareMessage { message, expected } => {
-                vec![lent_text(message), bytes_text(expected)]
+                vec![lent_text(message), lent_text(expected)]
             }
-            Call::CompareState { state, expected } => vec![state_text(state), bytes_text(expected)],
+            Call::CompareState { state, expected } => vec![state_text(state), lent_text(expected)],
             Call::PadWrite { message, buffer } => vec![lent_text(message), bytes_text(buffer)],
             Call::Block {
                 message,
                 buffer,
                 block,
                 ..
-            } => vec![lent_text(message), bytes_text(buffer), block.to_string()],
-            Call::Remove { bytes, .. } => vec![bytes_text(bytes)],
+            } => vec![lent_text(message), lent_text(buffer), block.to_string()],
+            Call::Remove { bytes, .. } => vec![lent_text(bytes)],
             Call::SheetRead { before, text } => {
                 let before = before.iter().map(|session| session_text(session));
-                before.chain([bytes_text(text)]).collect()
+                before.chain([lent_text(text)]).collect()
             }
             Call::Deliver {
                 session,
@@ -117,22 +123,26 @@ impl Call {
                 ..
             } => vec![session_text(session), note.to_string(), lent_text(piece)],
             Call::Ask { session, note, .. } => vec![session_text(session), note.to_string()],
+            Call::Line { .. } => vec![],
         }
     }
 
     /// The line, without its LF.
-    pub fn line(&self) -> String {
+    pub fn line(&self) -> Vec<u8> {
+        if let Call::Line { line } = self {
+            return line.clone();
+        }
         let mut line = self.name().to_string();
         for argument in self.arguments() {
             line.push('\t');
             line.push_str(&argument);
         }
-        line
+        line.into_bytes()
     }
 
     /// The call of a line, if it is one.
-    pub fn parse(line: &str) -> Option<Call> {
-        let fields: Vec<&str> = line.split('\t').collect();
+    pub fn parse(line: &[u8]) -> Option<Call> {
+        let fields: Vec<&str> = std::str::from_utf8(line).ok()?.split('\t').collect();
         let (name, arguments) = fields.split_first()?;
         hash_call(name, arguments)
             .or_else(|| padding_call(name, arguments))
@@ -153,7 +163,7 @@ fn hash_call(name: &str, arguments: &[&str]) -> Option<Call> {
         ("fresh", []) => Some(Call::Fresh),
         ("fold", [state, bytes]) => Some(Call::Fold {
             state: values::parse_state(state)?,
-            bytes: values::parse_bytes(bytes)?,
+            bytes: values::parse_lent(bytes)?,
         }),
         ("update" | "update_in_place", [state, piece]) => Some(Call::Update {
             in_place: name == "update_in_place",
@@ -168,11 +178,11 @@ fn hash_call(name: &str, arguments: &[&str]) -> Option<Call> {
         }),
         ("compare_message", [message, expected]) => Some(Call::CompareMessage {
             message: values::parse_lent(message)?,
-            expected: values::parse_bytes(expected)?,
+            expected: values::parse_lent(expected)?,
         }),
         ("compare_state", [state, expected]) => Some(Call::CompareState {
             state: values::parse_state(state)?,
-            expected: values::parse_bytes(expected)?,
+            expected: values::parse_lent(expected)?,
         }),
         _ => None,
     }
@@ -187,12 +197,12 @@ fn padding_call(name: &str, arguments: &[&str]) -> Option<Call> {
         ("block_number" | "block_part", [message, buffer, block]) => Some(Call::Block {
             part: name == "block_part",
             message: values::parse_lent(message)?,
-            buffer: values::parse_bytes(buffer)?,
+            buffer: values::parse_lent(buffer)?,
             block: values::parse_number(block)?,
         }),
         ("remove_number" | "remove_part", [bytes]) => Some(Call::Remove {
             part: name == "remove_part",
-            bytes: values::parse_bytes(bytes)?,
+            bytes: values::parse_lent(bytes)?,
         }),
         _ => None,
     }
@@ -203,11 +213,11 @@ fn session_call(name: &str, arguments: &[&str]) -> Option<Call> {
     match (name, arguments) {
         ("sheet_read", [text]) => Some(Call::SheetRead {
             before: None,
-            text: values::parse_bytes(text)?,
+            text: values::parse_lent(text)?,
         }),
         ("sheet_read_in_place", [before, text]) => Some(Call::SheetRead {
             before: Some(session(before)?),
-            text: values::parse_bytes(text)?,
+            text: values::parse_lent(text)?,
         }),
         ("deliver" | "deliver_in_place", [before, note, piece]) => Some(Call::Deliver {
             in_place: name == "deliver_in_place",

@@ -1,7 +1,7 @@
 //! The kinds of calls, and which call comes at an index.
 
 use crate::calls::call::Call;
-use crate::calls::{paddings, sessions, states};
+use crate::calls::{lines, paddings, sessions, states};
 use crate::making::random::Random;
 use crate::making::turns::{turn, Weighted};
 
@@ -13,8 +13,6 @@ pub struct Wish {
     /// How many of its kind were made before.
     pub ordinal: u64,
     pub seed: u64,
-    /// Records' numbers stay below 2^32.
-    pub narrow: bool,
 }
 
 impl Wish {
@@ -44,7 +42,7 @@ impl Weighted for Kind {
     }
 }
 
-const KINDS: [Kind; 28] = [
+const KINDS: [Kind; 35] = [
     kind("fresh", "fresh", 1, states::fresh),
     kind("fold", "fold", 4, states::fold),
     kind("update", "update", 12, states::update),
@@ -64,6 +62,8 @@ const KINDS: [Kind; 28] = [
     kind("deliver_in_place", "deliver", 18, sessions::deliver),
     kind("ask", "ask", 13, sessions::ask),
     kind("ask_in_place", "ask", 13, sessions::ask),
+    kind("line", "line", 8, lines::line),
+    kind("fold@", "fold@", 1, states::fold_absent),
     kind("update@", "update@", 1, states::update_absent),
     kind("update_in_place@", "update@", 1, states::update_absent),
     kind("digest@", "digest@", 1, states::digest_absent),
@@ -73,9 +73,24 @@ const KINDS: [Kind; 28] = [
         1,
         states::compare_message_absent,
     ),
-    kind("pad_write@", "pad@", 1, paddings::pad_write_absent),
-    kind("block_number@", "block@", 1, paddings::block_absent),
-    kind("block_part@", "block@", 1, paddings::block_absent),
+    kind(
+        "compare_state@",
+        "compare@",
+        1,
+        states::compare_state_absent,
+    ),
+    kind("pad_write@", "pad@", 2, paddings::pad_write_absent),
+    kind("block_number@", "block@", 2, paddings::block_absent),
+    kind("block_part@", "block@", 2, paddings::block_absent),
+    kind("remove_number@", "remove@", 1, paddings::remove_absent),
+    kind("remove_part@", "remove@", 1, paddings::remove_absent),
+    kind("sheet_read@", "sheet@", 1, sessions::sheet_read_absent),
+    kind(
+        "sheet_read_in_place@",
+        "sheet@",
+        1,
+        sessions::sheet_read_absent,
+    ),
     kind("deliver@", "deliver@", 1, sessions::deliver_absent),
     kind("deliver_in_place@", "deliver@", 1, sessions::deliver_absent),
 ];
@@ -94,16 +109,21 @@ const fn kind(
     }
 }
 
+/// A call of the kind at this place, counted round, for a line to be made of.
+pub fn any(seed: u64, place: usize, ordinal: u64) -> Call {
+    let kinds: Vec<&Kind> = KINDS.iter().filter(|kind| kind.name != "line").collect();
+    kinds[place % kinds.len()].call(seed, ordinal)
+}
+
 /// The calls of a run: the same for the same seed and kinds.
 pub struct Calls {
     pub kinds: Vec<Kind>,
     pub seed: u64,
-    pub narrow: bool,
 }
 
 impl Calls {
     /// All kinds but those named; a call's name takes its `@` kind with it.
-    pub fn new(seed: u64, without: &[String], narrow: bool) -> Result<Calls, String> {
+    pub fn new(seed: u64, without: &[String]) -> Result<Calls, String> {
         for name in without {
             if KINDS.iter().all(|kind| kind.name != name) {
                 return Err(format!("no call {name}"));
@@ -115,23 +135,23 @@ impl Calls {
         if kinds.is_empty() {
             return Err("no call is left".to_string());
         }
-        Ok(Calls {
-            kinds,
-            seed,
-            narrow,
-        })
+        Ok(Calls { kinds, seed })
     }
 
     /// The call at this index, and its kind's name.
     pub fn at(&self, index: u64) -> (&'static str, Call) {
         let (kind, ordinal) = turn(&self.kinds, index);
-        let mut wish = Wish {
-            name: kind.name,
-            random: Random::new(self.seed, kind.group, ordinal),
+        (kind.name, kind.call(self.seed, ordinal))
+    }
+}
+
+impl Kind {
+    fn call(&self, seed: u64, ordinal: u64) -> Call {
+        (self.make)(&mut Wish {
+            name: self.name,
+            random: Random::new(seed, self.group, ordinal),
             ordinal,
-            seed: self.seed,
-            narrow: self.narrow,
-        };
-        (kind.name, (kind.make)(&mut wish))
+            seed,
+        })
     }
 }

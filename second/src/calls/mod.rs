@@ -4,6 +4,8 @@
 pub mod answer;
 pub mod call;
 pub mod kinds;
+pub mod lax;
+pub mod lines;
 pub mod paddings;
 pub mod sessions;
 pub mod slips;
@@ -12,7 +14,7 @@ pub mod values;
 
 use crate::options::Options;
 use crate::report::Report;
-use answer::answer;
+use answer::{answer, NO_CALL};
 use call::Call;
 use kinds::Calls;
 use slips::{Slip, SLIPS};
@@ -30,7 +32,7 @@ const SHOWN: usize = 400;
 pub fn run(options: &Options, out: &mut dyn Write) -> Result<bool, String> {
     let slips = options.chosen(&SLIPS, |slip| slip.name)?;
     let names = slips.iter().map(|slip| slip.name).collect();
-    let calls = Calls::new(options.seed, &options.without, options.narrow)?;
+    let calls = Calls::new(options.seed, &options.without)?;
     let mut report = Report::new(out, options.seed, names);
     let mut trial = Trial {
         options,
@@ -99,7 +101,7 @@ impl Trial<'_, '_> {
             next
         })?;
         let status = child.wait()?;
-        if next == until && status.code().is_none() {
+        if next == until && !status.success() {
             self.differs(until - 1, &format!("all answered, then {status}"));
         }
         Ok(next)
@@ -148,13 +150,9 @@ impl Trial<'_, '_> {
     fn differs(&mut self, index: u64, said: &str) {
         let (kind, call) = self.calls.at(index);
         let ours = answer(&call).unwrap_or_default();
-        let at = first_difference(said, &ours);
-        self.report.differs(&format!(
-            "call {index} ({kind})\n  call    {}\n  program {}\n  second  {}",
-            shown(&call.line(), 0),
-            shown(said, at),
-            shown(&ours, at)
-        ));
+        let difference = difference(&call, said, &ours);
+        self.report
+            .differs(&format!("call {index} ({kind})\n{difference}"));
     }
 }
 
@@ -163,11 +161,12 @@ pub fn print(options: &Options, out: &mut dyn Write) -> Result<bool, String> {
     if options.slip.is_some() || !options.words.is_empty() {
         return Err("calls are printed without a slip and without a program".to_string());
     }
-    let calls = Calls::new(options.seed, &options.without, options.narrow)?;
+    let calls = Calls::new(options.seed, &options.without)?;
     let mut out = BufWriter::new(out);
     for index in 0..options.count {
         let line = calls.at(index).1.line();
-        writeln!(out, "{line}").map_err(|error| error.to_string())?;
+        let written = out.write_all(&line).and_then(|()| out.write_all(b"\n"));
+        written.map_err(|error| error.to_string())?;
     }
     out.flush().map_err(|error| error.to_string())?;
     Ok(true)
@@ -177,7 +176,8 @@ pub fn print(options: &Options, out: &mut dyn Write) -> Result<bool, String> {
 fn feed(input: ChildStdin, calls: &Calls, from: u64, until: u64) {
     let mut input = BufWriter::with_capacity(1 << 16, input);
     for index in from..until {
-        if writeln!(input, "{}", calls.at(index).1.line()).is_err() {
+        let line = calls.at(index).1.line();
+        if input.write_all(&line).is_err() || input.write_all(b"\n").is_err() {
             return;
         }
     }
@@ -185,12 +185,14 @@ fn feed(input: ChildStdin, calls: &Calls, from: u64, until: u64) {
 }
 
 /// What came out: the number, and more of it where the number says little.
-fn answer_kind(call: &Call, ours: &str) -> String {
+pub fn answer_kind(call: &Call, ours: &str) -> String {
     let fields: Vec<&str> = ours.split('\t').collect();
     match (call, &fields[..]) {
         (Call::Fresh | Call::Fold { .. }, _) => "state".to_string(),
         (Call::Block { part: true, .. }, [which, ..]) => format!("block-part-{which}"),
         (Call::Remove { part: true, .. }, _) => "removed-part".to_string(),
+        (Call::Line { .. }, [NO_CALL]) => "no-call".to_string(),
+        (Call::Line { .. }, _) => "still-a-call".to_string(),
         (Call::CompareMessage { .. } | Call::CompareState { .. }, ["0", same]) => {
             format!("compared-{same}")
         }
@@ -198,6 +200,25 @@ fn answer_kind(call: &Call, ours: &str) -> String {
         (_, [number, ..]) => format!("number-{number}"),
         (_, []) => unreachable!("a split gives one field at least"),
     }
+}
+
+/// A call's line, for reading; one that may hold any byte is escaped.
+fn call_text(call: &Call) -> String {
+    match call {
+        Call::Line { line } => line.escape_ascii().to_string(),
+        _ => String::from_utf8_lossy(&call.line()).into_owned(),
+    }
+}
+
+/// A call and the two answers to it, where they differ.
+pub fn difference(call: &Call, said: &str, ours: &str) -> String {
+    let at = first_difference(said, ours);
+    format!(
+        "  call    {}\n  program {}\n  second  {}",
+        shown(&call_text(call), 0),
+        shown(said, at),
+        shown(ours, at)
+    )
 }
 
 fn first_difference(one: &str, other: &str) -> usize {

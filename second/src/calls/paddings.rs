@@ -5,7 +5,7 @@ use crate::calls::kinds::Wish;
 use crate::calls::states::{any_length, message_length, too_long};
 use crate::calls::values::Lent;
 use crate::making::random::Random;
-use crate::padding;
+use crate::padding::{self, End, LONGEST};
 
 pub fn pad_write(wish: &mut Wish) -> Call {
     let length = message_length(&mut wish.random, wish.ordinal);
@@ -16,12 +16,40 @@ pub fn pad_write(wish: &mut Wish) -> Call {
     }
 }
 
+/// A message that is too long, one of whole blocks of which no byte is needed,
+/// or any with a buffer that is too short.
 pub fn pad_write_absent(wish: &mut Wish) -> Call {
-    let size = wish.random.pick(&[0, 1, 63, 64, 127, 128, 200]);
+    let random = &mut wish.random;
+    let size = random.pick(&[0, 1, 63, 64, 127, 128, 200]);
+    let short = random.below(64) as usize;
+    let (message, size) = match wish.ordinal % 4 {
+        0 => (too_long(random), size),
+        1 => (Lent::Absent(random.below(LONGEST + 1)), short),
+        _ => (Lent::Absent(whole_blocks(random)), size),
+    };
     Call::PadWrite {
-        message: too_long(&mut wish.random),
-        buffer: wish.random.bytes(size),
+        message,
+        buffer: random.bytes(size),
     }
+}
+
+/// A length of whole blocks: at the edge of something, or any.
+fn whole_blocks(random: &mut Random) -> u64 {
+    let any = 64 * random.below(1 << 55);
+    random.pick(&[
+        0,
+        64,
+        1 << 16,
+        1 << 29,
+        (1 << 29) - 64,
+        1 << 32,
+        (1 << 32) - 64,
+        1 << 60,
+        LONGEST - 63,
+        LONGEST - 127,
+        any,
+        any,
+    ])
 }
 
 /// Too short by one or more, exact, or longer than the message needs.
@@ -40,18 +68,58 @@ pub fn block(wish: &mut Wish) -> Call {
     Call::Block {
         part: wish.part(),
         message: Lent::Bytes(message),
-        buffer,
+        buffer: Lent::Bytes(buffer),
         block: block_index(&mut wish.random, count),
     }
 }
 
+/// A message that is too long, a buffer that is too short, or a message of
+/// whole blocks of which no byte is needed.
 pub fn block_absent(wish: &mut Wish) -> Call {
-    let size = wish.random.pick(&[0, 63, 64, 128, 200]);
+    let random = &mut wish.random;
+    let size = random.pick(&[0, 63, 64, 128, 200]);
+    let length = any_length(random);
+    let need = padding::tail_size(length as u64) as u64;
+    let (message, buffer) = match wish.ordinal % 6 {
+        0 => (too_long(random), Lent::Bytes(random.bytes(size))),
+        1 => (too_long(random), Lent::Absent(random.word())),
+        2 => (
+            Lent::Bytes(random.bytes(length)),
+            Lent::Absent(random.below(need)),
+        ),
+        _ => return block_of_absent(wish),
+    };
+    let block = block_index(random, 4);
     Call::Block {
         part: wish.part(),
-        message: too_long(&mut wish.random),
-        buffer: wish.random.bytes(size),
-        block: block_index(&mut wish.random, 4),
+        message,
+        buffer,
+        block,
+    }
+}
+
+/// A block of a message of whole blocks that is not there: where its bytes are
+/// printed, only one that does not lie in the message.
+fn block_of_absent(wish: &mut Wish) -> Call {
+    let length = whole_blocks(&mut wish.random);
+    let mut buffer = wish.random.bytes(100);
+    let end = End::of_length(length).expect("whole blocks");
+    assert_eq!(end.write(&mut buffer).count, 64);
+    if wish.random.one_in(4) {
+        let place = wish.random.index(buffer.len());
+        buffer[place] ^= wish.random.bit();
+    }
+    let count = padding::block_count(length) as u64;
+    let block = block_index(&mut wish.random, count);
+    Call::Block {
+        part: wish.part(),
+        message: Lent::Absent(length),
+        buffer: Lent::Bytes(buffer),
+        block: if wish.part() {
+            block.max(count - 1)
+        } else {
+            block
+        },
     }
 }
 
@@ -125,7 +193,18 @@ pub fn remove(wish: &mut Wish) -> Call {
     let message = wish.random.bytes(length);
     Call::Remove {
         part: wish.part(),
-        bytes: padded(wish, &message),
+        bytes: Lent::Bytes(padded(wish, &message)),
+    }
+}
+
+/// A length that no padded message has.
+pub fn remove_absent(wish: &mut Wish) -> Call {
+    let random = &mut wish.random;
+    let length = 64 * random.below(1 << 58) + random.within(1, 63);
+    let lengths = [0, 1, 8, 63, 65, length, length, LONGEST, u64::MAX];
+    Call::Remove {
+        part: wish.part(),
+        bytes: Lent::Absent(wish.random.pick(&lengths)),
     }
 }
 

@@ -8,11 +8,20 @@ use crate::hash::State;
 use crate::making::random::Random;
 use crate::making::{faults, notes, sheets};
 use crate::padding::LONGEST;
-use crate::session::{Record, Session, Slot, NOTES, OPEN, SHUT, WAITING};
+use crate::refusal::ACCEPTED;
+use crate::session::{Record, Session, Slot, NONE, NOTES, OPEN, SHUT, WAITING};
 
 pub fn sheet_read(wish: &mut Wish) -> Call {
     let before = wish.in_place().then(|| Box::new(scene(wish).session));
     let (_, text) = sheets::at(wish.seed, wish.ordinal);
+    let text = Lent::Bytes(text);
+    Call::SheetRead { before, text }
+}
+
+/// An empty text: any other is read.
+pub fn sheet_read_absent(wish: &mut Wish) -> Call {
+    let before = wish.in_place().then(|| Box::new(scene(wish).session));
+    let text = Lent::Absent(0);
     Call::SheetRead { before, text }
 }
 
@@ -28,7 +37,7 @@ pub fn deliver(wish: &mut Wish) -> Call {
 }
 
 /// A piece that no slot can take: it is longer than what the slot still lacks,
-/// also where a cut to 32 bits would make it fit.
+/// also where a cut to 32 bits would make it fit. Now and then an empty one.
 pub fn deliver_absent(wish: &mut Wish) -> Call {
     let scene = scene(wish);
     let note = note(wish, scene.note);
@@ -37,9 +46,11 @@ pub fn deliver_absent(wish: &mut Wish) -> Call {
         _ => 0,
     };
     let fits = scene.rest.len() as u64;
-    let past = lacking.saturating_add(1).min(LONGEST_SLICE);
+    let past = lacking + 1;
     let lengths = [past, (1 << 32) + fits, LONGEST + 1, LONGEST_SLICE];
-    let length = if note == scene.note {
+    let length = if wish.random.one_in(8) {
+        0
+    } else if note == scene.note {
         wish.random.pick(&lengths).max(past)
     } else {
         LONGEST_SLICE
@@ -77,9 +88,9 @@ fn scene(wish: &mut Wish) -> Scene {
     for _ in 0..others {
         let place = random.index(NOTES as usize);
         let turn = random.word();
-        session.slots[place] = slot(random, turn, wish.narrow).0;
+        session.slots[place] = slot(random, turn).0;
     }
-    let (slot, rest) = slot(random, wish.ordinal, wish.narrow);
+    let (slot, rest) = slot(random, wish.ordinal);
     session.slots[note as usize - 1] = slot;
     Scene {
         session,
@@ -141,7 +152,7 @@ const SLOT_TURNS: u64 = 12;
 const STATUS_TURN: u64 = 6;
 
 /// A slot by turns: in order, or spoilt in one of its parts.
-fn slot(random: &mut Random, turn: u64, narrow: bool) -> (Slot, Vec<u8>) {
+pub fn slot(random: &mut Random, turn: u64) -> (Slot, Vec<u8>) {
     let (mut slot, rest) = waiting(random);
     let decided = random.pick(&[OPEN, SHUT]);
     match turn % SLOT_TURNS {
@@ -154,7 +165,7 @@ fn slot(random: &mut Random, turn: u64, narrow: bool) -> (Slot, Vec<u8>) {
             }
         }
         7 => {
-            slot.record = bad_record(random, &slot.record, narrow);
+            slot.record = bad_record(random, &slot.record);
             if random.one_in(3) {
                 slot = decided_slot(slot.record, decided);
             }
@@ -166,7 +177,7 @@ fn slot(random: &mut Random, turn: u64, narrow: bool) -> (Slot, Vec<u8>) {
             spoil_fresh(random, &mut slot);
         }
         // Not listed, whatever else it holds.
-        _ => slot.status = 0,
+        _ => slot.status = NONE,
     }
     (slot, rest)
 }
@@ -193,7 +204,7 @@ fn waiting(random: &mut Random) -> (Slot, Vec<u8>) {
         lacking as usize
     });
     let mut ended = state;
-    assert_eq!(ended.update(&rest), 0);
+    assert_eq!(ended.update(&rest), ACCEPTED);
     let mut digest = ended.finish().digest;
     if random.one_in(3) {
         digest[random.index(32)] ^= random.bit();
@@ -213,26 +224,17 @@ fn begun(random: &mut Random, total: u64) -> State {
         return states::in_order(random, total);
     }
     let mut state = State::fresh();
-    assert_eq!(state.update(&random.bytes(total as usize)), 0);
+    assert_eq!(state.update(&random.bytes(total as usize)), ACCEPTED);
     state
 }
 
 /// A record that rule 3 or rule 4 refuses.
-fn bad_record(random: &mut Random, good: &Record, narrow: bool) -> Record {
+fn bad_record(random: &mut Random, good: &Record) -> Record {
     let mut bad = *good;
-    let wide = [
-        1 << 32,
-        (1 << 32) + good.length,
-        1 << 63,
-        u64::MAX - 1,
-        u64::MAX,
-    ];
-    match random.below(5) {
-        0 => bad.length = faults::bad_length(random, good.length),
-        1 if !narrow => bad.length = random.pick(&wide),
-        2 if !narrow => bad.loop_end = (1 << 32) + good.loop_end,
-        3 if !narrow => bad.loop_start = random.pick(&wide),
-        _ => (bad.loop_start, bad.loop_end) = faults::bad_loop(random, good),
+    if random.one_in(3) {
+        bad.length = faults::bad_length(random, good.length);
+    } else {
+        (bad.loop_start, bad.loop_end) = faults::bad_loop(random, good);
     }
     bad
 }

@@ -6,10 +6,12 @@ use crate::calls::answer::{
     written_text,
 };
 use crate::calls::call::Call;
+use crate::calls::lax;
 use crate::calls::values::Lent;
 use crate::folders::slips::{loop_below, part_taken};
 use crate::hash::{Compared, Digested, State};
-use crate::padding::{self, LONGEST};
+use crate::padding::{self, End, LONGEST};
+use crate::refusal::{ACCEPTED, OTHER_TAIL, TOO_LONG};
 use crate::session::{Session, OPEN, SHUT, WAITING};
 use crate::sheet;
 use crate::sm3;
@@ -21,12 +23,13 @@ pub struct Slip {
     pub answer: fn(&Call) -> Option<String>,
 }
 
-/// Every slip: of padding, of hash, of session, of sheet.
-pub const SLIPS: [Slip; 17] = [
+/// Every slip: of padding, of hash, of session, of sheet, of reading a line.
+pub const SLIPS: [Slip; 24] = [
     slip("padding-one-block", one_block),
     slip("padding-rest-cleared", rest_cleared),
     slip("padding-inside-unjudged", inside_unjudged),
     slip("padding-32-bit-length", short_length),
+    slip("padding-32-bit-written", short_length_written),
     slip("hash-length-in-bytes", length_in_bytes),
     slip("hash-tail-uncleared", tail_uncleared),
     slip("hash-dirty-tail-taken", dirty_tail_taken),
@@ -40,6 +43,12 @@ pub const SLIPS: [Slip; 17] = [
     slip("session-decided-unjudged", decided_unjudged),
     slip("sheet-loop-below", sheet_loop_below),
     slip("sheet-refused-lists", refused_lists),
+    slip("line-tabs-joined", lax::tabs_joined),
+    slip("line-return-taken", lax::return_taken),
+    slip("line-capitals-taken", lax::capitals_taken),
+    slip("line-zeros-taken", lax::zeros_taken),
+    slip("line-slots-sorted", lax::slots_sorted),
+    slip("line-cut-short", lax::cut_short),
 ];
 
 const fn slip(name: &'static str, answer: fn(&Call) -> Option<String>) -> Slip {
@@ -60,7 +69,7 @@ fn one_block(call: &Call) -> Option<String> {
     after[..kept].copy_from_slice(&message[message.len() - kept..]);
     after[kept..64].fill(0);
     after[56..64].copy_from_slice(&(8 * message.len() as u64).to_be_bytes());
-    Some(written_text(0, 64, &after))
+    Some(written_text(ACCEPTED, 64, &after))
 }
 
 /// The buffer's later bytes are made zero.
@@ -70,7 +79,7 @@ fn rest_cleared(call: &Call) -> Option<String> {
     };
     let mut after = buffer.clone();
     let written = padding::write(message.bytes()?, &mut after);
-    if written.number == 0 {
+    if written.number == ACCEPTED {
         after[written.count..].fill(0);
     }
     Some(written_text(written.number, written.count, &after))
@@ -87,15 +96,16 @@ fn inside_unjudged(call: &Call) -> Option<String> {
     else {
         return None;
     };
-    let message = message.bytes()?;
-    if padding::view_number(message, buffer, *block) != 13 || *block >= message.len() as u64 / 64 {
+    let (message, buffer) = (message.bytes()?, buffer.bytes()?);
+    let number = padding::view_number(message, buffer, *block);
+    if number != OTHER_TAIL || *block >= message.len() as u64 / 64 {
         return None;
     }
-    let place = padding::place(message.len() as u64, *block);
+    let place = padding::block_place(message.len() as u64, *block);
     Some(if *part {
         part_text(&place, message, buffer)
     } else {
-        "0".to_string()
+        ACCEPTED.to_string()
     })
 }
 
@@ -104,10 +114,27 @@ fn short_length(call: &Call) -> Option<String> {
     let Call::Remove { bytes, .. } = call else {
         return None;
     };
-    let mut bytes = bytes.clone();
+    let mut bytes = bytes.bytes()?.to_vec();
     let end = bytes.len().checked_sub(8)?;
     bytes[end..end + 4].fill(0);
+    let bytes = Lent::Bytes(bytes);
     answer(&Call::Remove { part: false, bytes }).filter(|_| call.name() == "remove_number")
+}
+
+/// Only the last four bytes of the length are written: no message that fits a
+/// call is long enough to tell.
+fn short_length_written(call: &Call) -> Option<String> {
+    let Call::PadWrite { message, buffer } = call else {
+        return None;
+    };
+    let mut after = buffer.clone();
+    let written = End::of_length(message.length())
+        .filter(|_| message.length() <= LONGEST)?
+        .write(&mut after);
+    if written.number == ACCEPTED {
+        after[written.count - 8..written.count - 4].fill(0);
+    }
+    Some(written_text(written.number, written.count, &after))
 }
 
 /// The length is written in bytes.
@@ -122,13 +149,13 @@ fn length_in_bytes(call: &Call) -> Option<String> {
     };
     match call {
         Call::Finish { state } if state.in_order() => Some(digest_text(Digested {
-            number: 0,
+            number: ACCEPTED,
             digest: ended(state),
         })),
-        Call::CompareState { state, expected } if state.in_order() && expected.len() == 32 => {
+        Call::CompareState { state, expected } if state.in_order() && expected.length() == 32 => {
             Some(comparison_text(Compared {
-                number: 0,
-                same: ended(state)[..] == expected[..],
+                number: ACCEPTED,
+                same: ended(state)[..] == *expected.bytes()?,
             }))
         }
         _ => None,
@@ -141,12 +168,12 @@ fn tail_uncleared(call: &Call) -> Option<String> {
         return None;
     };
     let mut after = *state;
-    if after.update(piece.bytes()?) != 0 {
+    if after.update(piece.bytes()?) != ACCEPTED {
         return None;
     }
     let kept = (after.total % 64) as usize;
     after.tail[kept..].copy_from_slice(&state.tail[kept..]);
-    Some(updated_text(0, &after))
+    Some(updated_text(ACCEPTED, &after))
 }
 
 /// A state with a dirty tail is taken for one in order.
@@ -168,7 +195,7 @@ fn limit_refused(call: &Call) -> Option<String> {
         return None;
     };
     let full = state.in_order() && LONGEST - state.total == piece.length();
-    full.then(|| updated_text(10, state))
+    full.then(|| updated_text(TOO_LONG, state))
 }
 
 /// Every state is gone on with from the start words.
@@ -181,7 +208,7 @@ fn start_words(call: &Call) -> Option<String> {
         ..*state
     };
     let number = after.update(piece.bytes()?);
-    (number == 0).then(|| updated_text(0, &after))
+    (number == ACCEPTED).then(|| updated_text(ACCEPTED, &after))
 }
 
 /// The last two bytes of a digest are not compared.
@@ -189,13 +216,12 @@ fn thirty_compared(call: &Call) -> Option<String> {
     let Call::CompareState { state, expected } = call else {
         return None;
     };
-    let ended = state.finish();
-    if ended.number != 0 || expected.len() != 32 {
+    if state.compare_number(expected.length()) != ACCEPTED {
         return None;
     }
     Some(comparison_text(Compared {
-        number: 0,
-        same: ended.digest[..30] == expected[..30],
+        number: ACCEPTED,
+        same: state.finish().digest[..30] == expected.bytes()?[..30],
     }))
 }
 
@@ -221,7 +247,7 @@ fn full_waits(call: &Call) -> Option<String> {
         && slot.state.total == record.length
         && record.length_allowed()
         && record.loop_allowed();
-    full.then(|| format!("0\t{WAITING}\t{}", record.length))
+    full.then(|| format!("{ACCEPTED}\t{WAITING}\t{}", record.length))
 }
 
 /// What fits of a refused piece is taken.
@@ -253,7 +279,7 @@ fn state_kept(call: &Call) -> Option<String> {
     };
     let mut after = **session;
     let answer = after.deliver(*note, piece);
-    if answer.number == 0 && matches!(answer.status, OPEN | SHUT) {
+    if answer.number == ACCEPTED && matches!(answer.status, OPEN | SHUT) {
         let place = *note as usize - 1;
         after.slots[place].state = session.slots[place].state;
         after.slots[place].state.update(piece);
@@ -281,7 +307,7 @@ fn sheet_loop_below(call: &Call) -> Option<String> {
     let Call::SheetRead { text, .. } = call else {
         return None;
     };
-    Some(sheet_text(&loop_below(text)))
+    Some(sheet_text(&loop_below(text.bytes()?)))
 }
 
 /// The notes before a refused line stay listed.
@@ -289,8 +315,9 @@ fn refused_lists(call: &Call) -> Option<String> {
     let Call::SheetRead { text, .. } = call else {
         return None;
     };
+    let text = text.bytes()?;
     let mut judged = sheet::read(text);
-    let notes = judged.line.checked_sub(2)? as usize;
+    let notes = judged.verdict.line.checked_sub(2)? as usize;
     let lines = text.split_inclusive(|byte| *byte == b'\n');
     let mut before = format!("RANK\t1\t{notes}\n").into_bytes();
     before.extend(lines.skip(1).take(notes).flatten());

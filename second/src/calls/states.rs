@@ -6,9 +6,10 @@ use crate::calls::values::Lent;
 use crate::hash::{self, State};
 use crate::making::random::Random;
 use crate::padding::LONGEST;
+use crate::refusal::ACCEPTED;
 
-/// The longest slice that can be lent at all.
-pub const LONGEST_SLICE: u64 = (1 << 63) - 1;
+/// The longest slice that can be told of, longer than any that is there.
+pub const LONGEST_SLICE: u64 = u64::MAX;
 
 /// Totals at the edge of something, most of them in order.
 const TOTALS: [u64; 22] = [
@@ -45,8 +46,16 @@ pub fn fold(wish: &mut Wish) -> Call {
     let state = state(&mut wish.random, wish.ordinal);
     let length = message_length(&mut wish.random, wish.ordinal);
     Call::Fold {
-        bytes: wish.random.bytes(length),
+        bytes: Lent::Bytes(wish.random.bytes(length)),
         state,
+    }
+}
+
+/// No whole block.
+pub fn fold_absent(wish: &mut Wish) -> Call {
+    Call::Fold {
+        state: state(&mut wish.random, wish.ordinal),
+        bytes: Lent::Absent(wish.random.below(64)),
     }
 }
 
@@ -60,9 +69,22 @@ pub fn update(wish: &mut Wish) -> Call {
     }
 }
 
-/// A piece that takes a state in order past the longest total.
+/// A piece that takes a state in order past the longest total, an empty one,
+/// or any to a state that is not in order.
 pub fn update_absent(wish: &mut Wish) -> Call {
     let random = &mut wish.random;
+    if wish.ordinal.is_multiple_of(4) {
+        let total = random.pick(&TOTALS);
+        let length = random.pick(&[0, 1, 64, LONGEST_SLICE]);
+        return Call::Update {
+            in_place: wish.in_place(),
+            state: match length {
+                0 => in_order(&mut wish.random, total),
+                _ => dirty(&mut wish.random, total),
+            },
+            piece: Lent::Absent(length),
+        };
+    }
     let total = match random.below(3) {
         0 => random.pick(&TOTALS).min(LONGEST),
         1 => LONGEST - random.below(300),
@@ -93,8 +115,10 @@ pub fn digest(wish: &mut Wish) -> Call {
 }
 
 pub fn digest_absent(wish: &mut Wish) -> Call {
+    let empty = Lent::Absent(0);
+    let long = too_long(&mut wish.random);
     Call::Digest {
-        message: too_long(&mut wish.random),
+        message: if wish.random.one_in(8) { empty } else { long },
     }
 }
 
@@ -103,17 +127,41 @@ pub fn compare_message(wish: &mut Wish) -> Call {
     let message = wish.random.bytes(length);
     let right = hash::digest(&message).digest;
     Call::CompareMessage {
-        expected: expected(wish, right),
+        expected: Lent::Bytes(expected(wish, right)),
         message: Lent::Bytes(message),
     }
 }
 
+/// A message that is too long, an expected digest of another length, or both.
 pub fn compare_message_absent(wish: &mut Wish) -> Call {
-    let expected = expected(wish, [0; 32]);
-    Call::CompareMessage {
-        message: too_long(&mut wish.random),
-        expected,
-    }
+    let there = Lent::Bytes(expected(wish, [0; 32]));
+    let random = &mut wish.random;
+    let length = any_length(random);
+    let (message, expected) = match random.below(3) {
+        0 => (too_long(random), there),
+        1 => (
+            too_long(random),
+            Lent::Absent(random.pick(&[0, 31, 32, 33])),
+        ),
+        _ => (Lent::Bytes(random.bytes(length)), other_size(random)),
+    };
+    Call::CompareMessage { message, expected }
+}
+
+/// A state that is not in order, or an expected digest of another length.
+pub fn compare_state_absent(wish: &mut Wish) -> Call {
+    let random = &mut wish.random;
+    let total = random.pick(&TOTALS);
+    let (state, expected) = match random.below(2) {
+        0 => (dirty(random, total), Lent::Absent(random.pick(&[32, 33]))),
+        _ => (in_order(random, total), other_size(random)),
+    };
+    Call::CompareState { state, expected }
+}
+
+/// An expected digest that has not 32 bytes.
+fn other_size(random: &mut Random) -> Lent {
+    Lent::Absent(random.pick(&[0, 1, 31, 33, 64, 32 + (1 << 32), LONGEST_SLICE]))
 }
 
 pub fn compare_state(wish: &mut Wish) -> Call {
@@ -122,7 +170,7 @@ pub fn compare_state(wish: &mut Wish) -> Call {
     // All zero for a state that is not in order: still no.
     let right = state.finish().digest;
     Call::CompareState {
-        expected: expected(wish, right),
+        expected: Lent::Bytes(expected(wish, right)),
         state,
     }
 }
@@ -212,7 +260,7 @@ fn total(random: &mut Random) -> u64 {
 fn reached(random: &mut Random) -> State {
     let mut state = State::fresh();
     let length = random.below(300) as usize;
-    assert_eq!(state.update(&random.bytes(length)), 0);
+    assert_eq!(state.update(&random.bytes(length)), ACCEPTED);
     state
 }
 

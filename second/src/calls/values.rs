@@ -1,7 +1,11 @@
-//! How values are written in a call and in its answers.
+//! How values are written in a call and in its answers. Each is written in one
+//! way only: what reads otherwise is no value.
 
 use crate::hash::State;
 use crate::session::{Record, Session, Slot, NOTES};
+
+/// The most bytes that a call may carry in one slice.
+pub const MOST_BYTES: usize = 70_000;
 
 /// A lent slice: its bytes, or only a length that no memory holds.
 #[derive(Clone, Debug, PartialEq, Eq)]
@@ -18,10 +22,11 @@ impl Lent {
         }
     }
 
-    /// The bytes, where they are there.
+    /// The bytes, where they are there. Of none, none is missing.
     pub fn bytes(&self) -> Option<&[u8]> {
         match self {
             Lent::Bytes(bytes) => Some(bytes),
+            Lent::Absent(0) => Some(&[]),
             Lent::Absent(_) => None,
         }
     }
@@ -68,7 +73,7 @@ pub fn parse_bytes(text: &str) -> Option<Vec<u8>> {
     match text {
         "-" => Some(Vec::new()),
         "" => None,
-        _ => parse_hex(text),
+        _ => parse_hex(text).filter(|bytes| bytes.len() <= MOST_BYTES),
     }
 }
 
@@ -86,10 +91,16 @@ pub fn parse_lent(text: &str) -> Option<Lent> {
     }
 }
 
-/// Decimal digits and nothing else, below 2^64.
+/// Decimal digits and nothing else, below 2^64, with no needless zero in front.
 pub fn parse_number(text: &str) -> Option<u64> {
     let digits = text.bytes().all(|byte| byte.is_ascii_digit());
-    digits.then(|| text.parse().ok()).flatten()
+    let needless = text.len() > 1 && text.starts_with('0');
+    (digits && !needless).then(|| text.parse().ok()).flatten()
+}
+
+/// The library stores the numbers of a record in 32 bits.
+fn parse_record_number(text: &str) -> Option<u64> {
+    parse_number(text).filter(|number| *number <= u64::from(u32::MAX))
 }
 
 pub fn state_text(state: &State) -> String {
@@ -114,7 +125,7 @@ pub fn parse_state(text: &str) -> Option<State> {
     })
 }
 
-fn slot_text(slot: &Slot) -> String {
+pub fn slot_text(slot: &Slot) -> String {
     let record = &slot.record;
     format!(
         "{}:{}:{}:{}:{}:{}",
@@ -135,9 +146,9 @@ fn parse_slot(text: &str) -> Option<Slot> {
     };
     Some(Slot {
         record: Record {
-            length: parse_number(length)?,
-            loop_start: parse_number(loop_start)?,
-            loop_end: parse_number(loop_end)?,
+            length: parse_record_number(length)?,
+            loop_start: parse_record_number(loop_start)?,
+            loop_end: parse_record_number(loop_end)?,
             digest: parse_array(digest)?,
         },
         state: parse_state(state)?,
@@ -157,6 +168,7 @@ pub fn session_text(session: &Session) -> String {
     listed.join(",")
 }
 
+/// The slots rise, and none of them is the empty one.
 pub fn parse_session(text: &str) -> Option<Session> {
     let mut session = Session::unlisted();
     if text == "-" {
@@ -169,7 +181,8 @@ pub fn parse_session(text: &str) -> Option<Session> {
         if note <= last || note > NOTES {
             return None;
         }
-        session.slots[note as usize - 1] = parse_slot(slot)?;
+        let slot = parse_slot(slot).filter(|slot| *slot != Slot::UNLISTED)?;
+        session.slots[note as usize - 1] = slot;
         last = note;
     }
     Some(session)

@@ -54,10 +54,21 @@ const fn kind(
     Kind { name, weight, make }
 }
 
+/// Of the turns of `names`, which has some to spare, these few are given to
+/// large samples: they take long.
+const LARGE_EVERY: u64 = 48;
+const LARGE_AT: u64 = 4;
+
 /// The folder at this index.
 pub fn at(seed: u64, index: u64) -> Content {
     let (kind, ordinal) = turn(&KINDS, index);
     let mut random = Random::new(seed, kind.name, ordinal);
+    if kind.name == "names" && ordinal % LARGE_EVERY == LARGE_AT {
+        return Content {
+            kind: "large",
+            entries: large(&mut random, ordinal / LARGE_EVERY),
+        };
+    }
     if kind.name != "sheet" {
         let entries = (kind.make)(&mut random, ordinal);
         return Content {
@@ -174,10 +185,44 @@ fn sizes(random: &mut Random, ordinal: u64) -> Vec<(String, Entry)> {
         let size = size(random, length.min(KNOWN) as usize);
         voices.push(voice(random, length, size));
     }
+    if ordinal.is_multiple_of(4) {
+        voices.push(past(random, ordinal as usize / 4));
+    }
     if random.one_in(60) {
         voices.push(voice(random, 100000, 100000));
     }
     folder(random, voices)
+}
+
+/// A sample of whole pieces and a file that is longer: the note is decided
+/// before the bytes too many come.
+fn past(random: &mut Random, turn: usize) -> Voice {
+    let length = PIECE * (turn % 3 + 1);
+    let more = [1, 1, 2, PIECE][turn / 3 % 4];
+    voice(random, length as u64, length + more)
+}
+
+/// A sample of more than 2,048 pieces: whole and right, cut short behind all
+/// of them, wrong in its last byte, or of whole pieces with a byte too many.
+fn large(random: &mut Random, turn: u64) -> Vec<(String, Entry)> {
+    let length = match turn % 4 {
+        3 => PIECE * random.within(2050, 2200) as usize,
+        _ => 2 * random.within(4_200_000, 4_500_000) as usize,
+    };
+    let mut file = random.bytes(length + 1);
+    let digest = hash::digest(&file[..length]).digest;
+    match turn % 4 {
+        0 => file.truncate(length),
+        1 => file.truncate(length - random.within(1, 3000) as usize),
+        2 => {
+            file.truncate(length);
+            file[length - 1] ^= random.bit();
+        }
+        _ => (),
+    }
+    let record = notes::record(random, length as u64, digest);
+    let other = voice(random, 64, 64);
+    folder(random, vec![Voice { record, file }, other])
 }
 
 /// A file's size: around full pieces, around the length, or a piece longer.

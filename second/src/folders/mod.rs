@@ -15,8 +15,8 @@ use std::process::{Output, Stdio};
 /// Compares the folders; whether all is well. A message where nothing could
 /// be compared.
 pub fn run(options: &Options, out: &mut dyn Write) -> Result<bool, String> {
-    if options.narrow || !options.without.is_empty() {
-        return Err("--narrow and --without are for calls".to_string());
+    if !options.without.is_empty() {
+        return Err("--without is for calls".to_string());
     }
     let slips = options.chosen(&SLIPS, |slip| slip.name)?;
     let names = slips.iter().map(|slip| slip.name).collect();

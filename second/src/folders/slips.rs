@@ -1,21 +1,25 @@
 //! Copies of the program, each with one mistake, to show that the comparison
 //! of folders finds it. Nothing else uses them.
 
-use crate::program::PIECE;
-use crate::session::{Answer, Record, Session, NOTES};
-use crate::sheet::{self, Sheet};
+use crate::program::{self, PIECE};
+use crate::refusal::{ACCEPTED, BAD_LOOP, DECIDED, PAST_LENGTH};
+use crate::session::{Answer, Record, Session, NONE, NOTES, WAITING};
+use crate::sheet::{self, Sheet, Verdict};
 use std::path::Path;
 
-/// A mistaken program: the three places where the copies go wrong.
+/// A mistaken program: the places where the copies go wrong.
 pub struct Slip {
     pub name: &'static str,
     read: fn(&[u8]) -> Sheet,
     deliver: fn(&mut Session, u64, &[u8]) -> Answer,
+    /// Whether a file stops at its first refusal.
     stops: bool,
+    /// The pieces of a file that are read at most.
+    pieces: usize,
 }
 
 /// Every slip.
-pub const SLIPS: [Slip; 7] = [
+pub const SLIPS: [Slip; 9] = [
     Slip {
         name: "loop-below",
         read: loop_below,
@@ -29,6 +33,16 @@ pub const SLIPS: [Slip; 7] = [
     Slip {
         name: "part-taken",
         deliver: part_taken,
+        ..HONEST
+    },
+    Slip {
+        name: "decision-taken-back",
+        deliver: decision_taken_back,
+        ..HONEST
+    },
+    Slip {
+        name: "1024-pieces",
+        pieces: 1024,
         ..HONEST
     },
     Slip {
@@ -58,6 +72,7 @@ const HONEST: Slip = Slip {
     read: sheet::read,
     deliver: Session::deliver,
     stops: true,
+    pieces: usize::MAX,
 };
 
 impl Slip {
@@ -65,21 +80,22 @@ impl Slip {
     pub fn load(&self, folder: &Path) -> Vec<u8> {
         let text = std::fs::read(folder.join("rank.txt")).unwrap_or_default();
         let sheet = (self.read)(&text[..text.len().min(PIECE)]);
-        if sheet.number != 0 {
-            return crate::program::refused(&sheet);
+        if sheet.verdict.number != ACCEPTED {
+            return program::refused(&sheet.verdict);
         }
         let mut session = sheet.session;
         let mut printed = String::new();
-        for note in (1..=NOTES).filter(|note| sheet.session.ask(*note).number == 0) {
+        for note in (1..=NOTES).filter(|note| sheet.session.ask(*note).number == ACCEPTED) {
             let file = folder.join(format!("{note:02}.raw"));
-            for piece in std::fs::read(file).unwrap_or_default().chunks(PIECE) {
+            let bytes = std::fs::read(file).unwrap_or_default();
+            for piece in bytes.chunks(PIECE).take(self.pieces) {
                 let number = (self.deliver)(&mut session, note, piece).number;
-                if number != 0 && self.stops {
+                if number != ACCEPTED && self.stops {
                     break;
                 }
             }
             let answer = session.ask(note);
-            let word = ["none", "waiting", "open", "shut"][usize::from(answer.status)];
+            let word = program::word(answer.status);
             printed.push_str(&format!("{note}\t{word}\t{}\n", answer.taken));
         }
         printed.into_bytes()
@@ -89,12 +105,16 @@ impl Slip {
 /// A loop that ends as late as it may is refused.
 pub fn loop_below(text: &[u8]) -> Sheet {
     let mut sheet = sheet::read(text);
-    let listed = sheet.session.slots.iter().filter(|slot| slot.status != 0);
+    let listed = sheet
+        .session
+        .slots
+        .iter()
+        .filter(|slot| slot.status != NONE);
     let first = listed
         .enumerate()
         .find(|(_, slot)| !later_end(&slot.record).loop_allowed());
     if let Some((place, _)) = first {
-        sheet = refused(4, place as u64 + 2);
+        sheet = refused(BAD_LOOP, place as u64 + 2);
     }
     sheet
 }
@@ -109,15 +129,24 @@ fn later_end(record: &Record) -> Record {
 /// What fits of a refused piece is taken, and decides the note.
 pub fn part_taken(session: &mut Session, note: u64, piece: &[u8]) -> Answer {
     let answer = session.deliver(note, piece);
-    if answer.number != 8 {
+    if answer.number != PAST_LENGTH {
         return answer;
     }
     let slot = &session.slots[note as usize - 1];
     let fits = (slot.record.length - slot.state.total) as usize;
     Answer {
-        number: 8,
+        number: PAST_LENGTH,
         ..session.deliver(note, &piece[..fits])
     }
+}
+
+/// A piece for a decided note takes the decision back.
+fn decision_taken_back(session: &mut Session, note: u64, piece: &[u8]) -> Answer {
+    let answer = session.deliver(note, piece);
+    if answer.number == DECIDED {
+        session.slots[note as usize - 1].status = WAITING;
+    }
+    answer
 }
 
 /// The last line is taken without its LF.
@@ -142,14 +171,14 @@ fn carriage_returns(text: &[u8]) -> Sheet {
 fn text_after(text: &[u8]) -> Sheet {
     let judged = sheet::read(text);
     let mut read = 0;
-    for _ in 1..judged.line {
+    for _ in 1..judged.verdict.line {
         read += text[read..]
             .iter()
             .position(|byte| *byte == b'\n')
             .map_or(0, |end| end + 1);
     }
     let cut = sheet::read(&text[..read]);
-    if cut.number == 0 {
+    if cut.verdict.number == ACCEPTED {
         cut
     } else {
         judged
@@ -159,14 +188,13 @@ fn text_after(text: &[u8]) -> Sheet {
 /// A refused line is counted from 0.
 fn line_from_zero(text: &[u8]) -> Sheet {
     let mut sheet = sheet::read(text);
-    sheet.line = sheet.line.saturating_sub(1);
+    sheet.verdict.line = sheet.verdict.line.saturating_sub(1);
     sheet
 }
 
 fn refused(number: u8, line: u64) -> Sheet {
     Sheet {
-        number,
-        line,
+        verdict: Verdict { number, line },
         session: Session::unlisted(),
     }
 }

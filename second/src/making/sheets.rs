@@ -4,6 +4,7 @@ use crate::making::faults;
 use crate::making::notes::{self, Fields};
 use crate::making::random::Random;
 use crate::making::turns::{turn, Weighted};
+use crate::refusal::{BAD_LENGTH, BAD_LOOP, COUNT_OR_NOTE, FORM};
 use crate::session::{Record, NOTES};
 
 /// A kind of sheet. The maker is told the how-manieth of its kind it makes.
@@ -49,16 +50,19 @@ fn good(random: &mut Random, ordinal: u64) -> Vec<u8> {
     notes::text(&notes::lines(&notes))
 }
 
+/// What a sheet is refused for, in the order in which a line is judged.
+const RULES: [u8; 4] = [FORM, COUNT_OR_NOTE, BAD_LENGTH, BAD_LOOP];
+
 /// How many pairs of a line and a rule a sheet of 32 notes has.
 pub const RULES_AT_LINES: u64 = 2 + 4 * NOTES;
 
 /// Line (from 1) and rule of a pair: the first line has form and count only.
 pub fn rule_and_line(ordinal: u64) -> (u8, usize) {
-    let pair = ordinal % RULES_AT_LINES;
+    let pair = (ordinal % RULES_AT_LINES) as usize;
     if pair < 2 {
-        return (pair as u8 + 1, 1);
+        return (RULES[pair], 1);
     }
-    ((pair - 2) as u8 % 4 + 1, (pair - 2) as usize / 4 + 2)
+    (RULES[(pair - 2) % 4], (pair - 2) / 4 + 2)
 }
 
 /// Every rule broken at every line of a sheet of 32 notes. As notes rise
@@ -72,7 +76,7 @@ pub fn rule_at_line(random: &mut Random, ordinal: u64) -> Vec<u8> {
 /// The sheet of these notes with a rule broken at a line, counted from 1.
 fn broken(random: &mut Random, notes: &[(u64, Record)], rule: u8, line: usize) -> Vec<u8> {
     let mut lines = notes::lines(notes);
-    if rule == 1 {
+    if rule == FORM {
         let forms = faults::bad_forms(&lines[line - 1]);
         let form = &forms[random.index(forms.len())];
         return replaced(&lines, line, form);
@@ -87,8 +91,8 @@ fn broken(random: &mut Random, notes: &[(u64, Record)], rule: u8, line: usize) -
     let fields = &mut lines[line - 1];
     let mut put = |place: usize, value: u64| fields[place] = value.to_string().into_bytes();
     match rule {
-        2 => put(0, faults::bad_note(random, note, before)),
-        3 => put(1, faults::bad_length(random, record.length)),
+        COUNT_OR_NOTE => put(0, faults::bad_note(random, note, before)),
+        BAD_LENGTH => put(1, faults::bad_length(random, record.length)),
         _ => {
             let (start, end) = faults::bad_loop(random, &record);
             put(2, start);

@@ -53,6 +53,18 @@ fn load_prints_what_the_program_prints() {
 }
 
 #[test]
+fn the_small_examples_are_as_printed() {
+    let output = call(&["examples"]);
+    assert_eq!(
+        said(&output),
+        "abc: 66c7f0f4 62eeedd9 d1f2d46b dc10e4e2 4167c487 5cf2f7a2 297da02b 8f4ba8e0\n\
+         total 2^61 - 1, an empty piece: number 0, total afterwards 2305843009213693951\n\
+         total 2^61 - 1, one byte: number 10, total afterwards 2305843009213693951\n"
+    );
+    assert_eq!(output.status.code(), Some(0));
+}
+
+#[test]
 fn wrong_use_is_one_line_and_status_2() {
     for arguments in [
         &[][..],
@@ -61,11 +73,13 @@ fn wrong_use_is_one_line_and_status_2() {
         &["vectors"],
         &["vectors", "a"],
         &["other", "a", "b"],
+        &["examples", "a"],
         &["answer-calls", "a"],
         &["folders"],
         &["folders", "10", "1"],
         &["folders", "0", "1", "true"],
         &["calls", "10", "x", "true"],
+        &["orders", "10", "1"],
         &["calls", "10", "1", "--slip"],
         &["print-calls", "10"],
     ] {

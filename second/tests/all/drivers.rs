@@ -52,7 +52,7 @@ fn every_slip_in_calls_is_found() {
     ];
     let output = drive(&folder, &arguments);
     let all = said(&output);
-    assert_eq!(all.matches(" found by call ").count(), 17, "{all}");
+    assert_eq!(all.matches(" found by call ").count(), 24, "{all}");
     assert!(!all.contains("not found"));
     assert_eq!(output.status.code(), Some(0));
 }
@@ -80,6 +80,10 @@ fn a_call_program_that_is_wrong_or_ends_is_seen() {
     assert!(last_line(&silent).ends_with("\tdiffer 10"));
     assert!(said(&silent).contains("no answer: the program ended"));
     assert_eq!(silent.status.code(), Some(1));
+    let failing = format!("{SECOND} answer-calls; exit 3");
+    let failing = drive(&folder, &["calls", "100", "3", "sh", "-c", &failing]);
+    assert!(said(&failing).contains("all answered, then exit status: 3"));
+    assert_eq!(failing.status.code(), Some(1));
     let missing = drive(&folder, &["calls", "100", "3", "./no-such-program"]);
     assert_eq!(missing.status.code(), Some(2));
 }
@@ -90,14 +94,63 @@ fn a_call_program_that_is_wrong_or_ends_is_seen() {
 fn the_call_that_ends_the_program_is_found() {
     let folder = help::folder("calls-end");
     let program = format!("sed '/^deliver\t.*@/,$d' | {SECOND} answer-calls");
-    let output = drive(&folder, &["calls", "428", "3", "sh", "-c", &program]);
+    let output = drive(&folder, &["calls", "458", "3", "sh", "-c", &program]);
     let all = said(&output);
     assert!(last_line(&output).ends_with("\tdiffer 2"), "{all}");
     assert_eq!(all.matches("(deliver@)\n").count(), 2, "{all}");
     let without = ["calls", "--without", "deliver@"];
-    let rest = ["428", "3", "sh", "-c", &program];
+    let rest = ["458", "3", "sh", "-c", &program];
     let output = drive(&folder, &[&without[..], &rest[..]].concat());
     assert!(last_line(&output).ends_with("\tdiffer 0"));
+}
+
+#[test]
+fn orders_answered_by_this_program_do_not_differ() {
+    let folder = help::folder("orders-same");
+    let output = drive(&folder, &["orders", "200", "3", SECOND, "answer-calls"]);
+    assert!(said(&output).starts_with("seed 3\n"));
+    let counts = "orders\tsheet 50\tsheet_in_place 50\tstored 50\tstored_in_place 50\tdiffer 0";
+    assert_eq!(last_line(&output), counts);
+    assert_eq!(output.status.code(), Some(0));
+}
+
+#[test]
+fn every_slip_in_orders_is_found() {
+    let folder = help::folder("orders-slips");
+    let slips = ["orders", "--slip", "all"];
+    let rest = ["200", "3", SECOND, "answer-calls"];
+    let output = drive(&folder, &[&slips[..], &rest[..]].concat());
+    let all = said(&output);
+    assert_eq!(all.matches(" found by sequence ").count(), 4, "{all}");
+    assert_eq!(output.status.code(), Some(0));
+}
+
+/// The program answers another count where any note is open: by that it is
+/// seen to differ from this one, and to differ between the orders.
+#[test]
+fn a_program_that_peeks_at_other_slots_is_seen() {
+    let folder = help::folder("orders-peeking");
+    let peek = "s/^0\\t1\\t[0-9]*\\(\\t.*:2,.*\\)$/0\\t1\\t99\\1/";
+    let program = format!("{SECOND} answer-calls | sed -u '{peek}'");
+    let output = drive(&folder, &["orders", "200", "3", "sh", "-c", &program]);
+    assert!(said(&output).contains(": the two orders\n"));
+    assert!(said(&output).contains("0\t1\t99\t"));
+    assert_eq!(output.status.code(), Some(1));
+}
+
+#[test]
+fn a_program_of_orders_that_ends_or_fails_is_seen() {
+    let folder = help::folder("orders-wrong");
+    let silent = drive(&folder, &["orders", "20", "3", "true"]);
+    assert!(last_line(&silent).ends_with("\tdiffer 10"));
+    assert!(said(&silent).contains("no answer: the program ended"));
+    assert_eq!(silent.status.code(), Some(1));
+    let failing = format!("{SECOND} answer-calls; exit 3");
+    let failing = drive(&folder, &["orders", "20", "3", "sh", "-c", &failing]);
+    assert!(last_line(&failing).ends_with("\tdiffer 1"));
+    assert_eq!(failing.status.code(), Some(1));
+    let missing = drive(&folder, &["orders", "20", "3", "./no-such-program"]);
+    assert_eq!(missing.status.code(), Some(2));
 }
 
 #[test]
@@ -128,7 +181,7 @@ fn every_slip_in_folders_is_found() {
     let arguments = ["folders", "--slip", "all", "2000", "3", SECOND, "load", "."];
     let output = drive(&folder, &arguments);
     let all = said(&output);
-    assert_eq!(all.matches(" found by folder ").count(), 7, "{all}");
+    assert_eq!(all.matches(" found by folder ").count(), 9, "{all}");
     assert!(last_line(&output).ends_with("\tdiffer 0"));
     assert_eq!(output.status.code(), Some(0));
     assert_eq!(entries(&folder), 0, "nothing is left behind");
@@ -163,8 +216,8 @@ fn a_program_ended_by_a_signal_differs_whatever_it_printed() {
 fn options_of_the_other_driver_are_wrong_use() {
     let folder = help::folder("options-wrong");
     for arguments in [
-        &["folders", "--narrow", "5", "3", "true"][..],
-        &["folders", "--without", "ask", "5", "3", "true"],
+        &["folders", "--without", "ask", "5", "3", "true"][..],
+        &["orders", "--without", "ask", "5", "3", "true"],
         &["print-calls", "--slip", "all", "5", "3"],
         &["print-calls", "5", "3", "true"],
     ] {
@@ -177,7 +230,7 @@ fn options_of_the_other_driver_are_wrong_use() {
 #[test]
 fn a_slip_that_is_not_there_is_wrong_use() {
     let folder = help::folder("slips-unknown");
-    for driver in ["folders", "calls"] {
+    for driver in ["folders", "calls", "orders"] {
         let output = drive(&folder, &[driver, "--slip", "none", "5", "3", "true"]);
         assert_eq!(output.status.code(), Some(2));
         assert!(output.stdout.is_empty());

@@ -49,7 +49,11 @@ fn block_counts() {
 fn loops_with_32_frames() {
     for (bounds, number) in [("0 32", 0), ("0 33", 4), ("32 32", 4)] {
         let text = help::sheet(&["RANK 1 1", &format!("5 64 {bounds} Z")]);
-        assert_eq!(sheet::read(text.as_bytes()).number, number, "loop {bounds}");
+        assert_eq!(
+            sheet::read(text.as_bytes()).verdict.number,
+            number,
+            "loop {bounds}"
+        );
     }
 }
 
@@ -95,7 +99,7 @@ fn the_longest_sheet_has_3233_bytes() {
     let text = help::sheet(&lines);
     assert_eq!(text.len(), 3233);
     let read = sheet::read(text.as_bytes());
-    assert_eq!((read.number, read.line), (0, 0));
+    assert_eq!((read.verdict.number, read.verdict.line), (0, 0));
     assert!(read.session.slots.iter().all(|slot| slot.status == 1));
 }
 

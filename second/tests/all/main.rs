@@ -1,5 +1,6 @@
 //! All tests, in one crate so that they share their helpers.
 
+mod absent;
 mod command;
 mod cuttings;
 mod drivers;

@@ -1,7 +1,7 @@
 //! Writing and viewing, over all short lengths and over lengths alone.
 
 use crate::help;
-use second::padding::{self, Part, Source};
+use second::padding::{self, Place, Which};
 
 const HIGHEST: u64 = (1 << 61) - 1;
 
@@ -53,9 +53,9 @@ fn viewed_blocks_joined_are_the_padded_message() {
         let mut joined = Vec::new();
         for block in 0..padding::block_count(length as u64) as u64 {
             assert_eq!(padding::view_number(&message, &tail, block), 0);
-            let part = padding::view_part(&message, &tail, block);
+            let part = padding::view_place(&message, &tail, block);
             let inside = 64 * (block + 1) <= length as u64;
-            assert_eq!(part.source == Source::Message, inside);
+            assert_eq!(part.which == Which::Message, inside);
             assert_eq!(part.length, 64);
             joined.extend_from_slice(part.bytes(&message, &tail));
         }
@@ -65,7 +65,7 @@ fn viewed_blocks_joined_are_the_padded_message() {
 
 #[test]
 fn an_empty_part_has_no_bytes() {
-    assert!(Part::EMPTY.bytes(b"message", b"tail").is_empty());
+    assert!(Place::EMPTY.bytes(b"message", b"tail").is_empty());
 }
 
 #[test]
@@ -74,17 +74,17 @@ fn places_of_the_longest_message() {
     let whole = (1 << 55) - 1;
     assert_eq!(padding::tail_size(HIGHEST), 128);
     assert_eq!(padding::block_count(HIGHEST), (1 << 55) + 1);
-    for (block, source, offset) in [
-        (whole - 1, Source::Message, 64 * (whole - 1)),
-        (whole, Source::Tail, 0),
-        (whole + 1, Source::Tail, 64),
+    for (block, which, offset) in [
+        (whole - 1, Which::Message, 64 * (whole - 1)),
+        (whole, Which::Buffer, 0),
+        (whole + 1, Which::Buffer, 64),
     ] {
-        let expected = Part {
-            source,
+        let expected = Place {
+            which,
             offset,
             length: 64,
         };
-        assert_eq!(padding::place(HIGHEST, block), expected);
+        assert_eq!(padding::block_place(HIGHEST, block), expected);
     }
 }
 

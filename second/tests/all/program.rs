@@ -114,10 +114,28 @@ fn a_file_too_long_keeps_the_pieces_before() {
 
 #[test]
 fn bytes_past_a_length_of_whole_pieces_come_too_late() {
-    let sample = help::message(4096);
-    let folder = folder_for("past-whole", &sample);
-    write(&folder, "07.raw", help::message(5000));
-    assert_eq!(printed(&folder), "7\topen\t4096\n");
+    for (length, size) in [(4096, 5000), (8192, 8193), (8192, 12288)] {
+        let folder = folder_for("past-whole", &help::message(length));
+        let mut file = help::message(size);
+        write(&folder, "07.raw", &file);
+        assert_eq!(printed(&folder), format!("7\topen\t{length}\n"));
+        file[length - 1] ^= 1;
+        write(&folder, "07.raw", &file);
+        assert_eq!(printed(&folder), format!("7\tshut\t{length}\n"));
+    }
+}
+
+#[test]
+fn a_file_has_as_many_pieces_as_it_has() {
+    let sample = help::message(3000 * 4096 + 2);
+    let folder = folder_for("many-pieces", &sample);
+    write(&folder, "07.raw", &sample);
+    assert_eq!(printed(&folder), format!("7\topen\t{}\n", sample.len()));
+    write(&folder, "07.raw", &sample[..sample.len() - 4]);
+    assert_eq!(
+        printed(&folder),
+        format!("7\twaiting\t{}\n", sample.len() - 4)
+    );
 }
 
 #[test]

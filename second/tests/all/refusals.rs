@@ -2,7 +2,7 @@
 
 use crate::help;
 use second::hash::{self, State};
-use second::padding::{self, Part, Source, Written};
+use second::padding::{self, Place, Which, Written};
 use second::session::{Answer, Session};
 use second::sheet;
 
@@ -26,7 +26,11 @@ fn rows_1_to_4_give_a_line_and_no_note() {
         (["RANK 1 2", good, "2 64 1 0 Z"], 4, 3),
     ] {
         let read = sheet::read(help::sheet(&lines).as_bytes());
-        assert_eq!((read.number, read.line), (number, line), "{lines:?}");
+        assert_eq!(
+            (read.verdict.number, read.verdict.line),
+            (number, line),
+            "{lines:?}"
+        );
         assert_eq!(read.session, Session::unlisted(), "{lines:?}");
     }
 }
@@ -134,7 +138,7 @@ fn row_11_is_a_short_buffer_or_another_digest_length() {
         assert_eq!(padding::write(&message, &mut short), expected);
         assert_eq!(short, vec![0xaa; needed - 1]);
         assert_eq!(padding::view_number(&message, &short, 0), 11);
-        assert_eq!(padding::view_part(&message, &short, 0), Part::EMPTY);
+        assert_eq!(padding::view_place(&message, &short, 0), Place::EMPTY);
     }
     let digest = help::digest_of(b"abc");
     let mut long = digest.to_vec();
@@ -155,7 +159,7 @@ fn row_12_is_a_block_past_the_last() {
     assert_eq!(padding::view_number(&message, &tail, 2), 0);
     for block in [3, 4, 1 << 58, 1 << 61, u64::MAX] {
         assert_eq!(padding::view_number(&message, &tail, block), 12);
-        assert_eq!(padding::view_part(&message, &tail, block), Part::EMPTY);
+        assert_eq!(padding::view_place(&message, &tail, block), Place::EMPTY);
     }
 }
 
@@ -169,12 +173,12 @@ fn row_13_is_another_tail_and_comes_before_12() {
         spoilt[place] ^= 1;
         for block in [0, 1, 2, u64::MAX] {
             assert_eq!(padding::view_number(&message, &spoilt, block), 13);
-            assert_eq!(padding::view_part(&message, &spoilt, block), Part::EMPTY);
+            assert_eq!(padding::view_place(&message, &spoilt, block), Place::EMPTY);
         }
     }
     tail[64] = 1;
     assert_eq!(padding::view_number(&message, &tail, 1), 0);
-    assert_eq!(padding::view_part(&message, &tail, 1).source, Source::Tail);
+    assert_eq!(padding::view_place(&message, &tail, 1).which, Which::Buffer);
 }
 
 #[test]

@@ -7,12 +7,12 @@ use second::sheet;
 /// Number and line of a sheet; a refused one must list nothing.
 pub fn judged(text: &str) -> (u8, u64) {
     let read = sheet::read(text.as_bytes());
-    if read.number == 0 {
+    if read.verdict.number == 0 {
         assert_ne!(read.session, Session::unlisted());
     } else {
         assert_eq!(read.session, Session::unlisted());
     }
-    (read.number, read.line)
+    (read.verdict.number, read.verdict.line)
 }
 
 /// Number of a sheet with this one line of a note.
@@ -28,7 +28,7 @@ fn an_accepted_sheet_lists_exactly_its_notes() {
     let line = format!("9 4096 17 2000 {digest}");
     let text = help::sheet(&["RANK 1 2", &line, "31 4 0 1 Z"]);
     let read = sheet::read(text.as_bytes());
-    assert_eq!((read.number, read.line), (0, 0));
+    assert_eq!((read.verdict.number, read.verdict.line), (0, 0));
     let mut expected = Session::unlisted();
     let bytes: Vec<u8> = (0..32).map(|k| 7 * k + 3).collect();
     expected.list(

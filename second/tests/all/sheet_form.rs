@@ -135,7 +135,11 @@ fn bytes_that_are_no_text_are_at_fault() {
             let line = 1 + good()[..place].matches('\n').count() as u64;
             text[place] = byte;
             let read = sheet::read(&text);
-            assert_eq!((read.number, read.line), (1, line), "{place} {byte}");
+            assert_eq!(
+                (read.verdict.number, read.verdict.line),
+                (1, line),
+                "{place} {byte}"
+            );
         }
     }
 }

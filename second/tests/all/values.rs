@@ -1,8 +1,10 @@
 //! Values and calls as they are written: what is printed is read back.
 
 use crate::help;
+use second::calls::answer::{answer, answer_lines};
 use second::calls::call::Call;
 use second::calls::kinds::Calls;
+use second::calls::lines;
 use second::calls::values::{self, Lent};
 use second::hash::State;
 use second::session::{Record, Session, Slot};
@@ -20,6 +22,8 @@ fn bytes_are_two_small_digits_each_and_a_dash_for_none() {
     for wrong in ["", "0", "0g", "0A", "000", " 00", "--", "@1"] {
         assert_eq!(values::parse_bytes(wrong), None, "{wrong:?}");
     }
+    assert!(values::parse_bytes(&"00".repeat(70000)).is_some());
+    assert_eq!(values::parse_bytes(&"00".repeat(70001)), None);
 }
 
 #[test]
@@ -35,7 +39,7 @@ fn lent_slices_may_be_a_length_alone() {
     ] {
         assert_eq!(values::parse_lent(&values::lent_text(&lent)), Some(lent));
     }
-    for wrong in ["@", "@x", "@-1", "@18446744073709551616", "@@1"] {
+    for wrong in ["@", "@x", "@-1", "@00", "@18446744073709551616", "@@1"] {
         assert_eq!(values::parse_lent(wrong), None, "{wrong:?}");
     }
 }
@@ -44,7 +48,17 @@ fn lent_slices_may_be_a_length_alone() {
 fn numbers_are_digits_below_two_to_the_64th() {
     assert_eq!(values::parse_number("0"), Some(0));
     assert_eq!(values::parse_number("18446744073709551615"), Some(u64::MAX));
-    for wrong in ["", "+1", "-1", " 1", "1 ", "0x1", "18446744073709551616"] {
+    for wrong in [
+        "",
+        "+1",
+        "-1",
+        " 1",
+        "1 ",
+        "0x1",
+        "00",
+        "01",
+        "18446744073709551616",
+    ] {
         assert_eq!(values::parse_number(wrong), None, "{wrong:?}");
     }
 }
@@ -78,44 +92,93 @@ fn sessions_are_their_slots_that_are_not_empty() {
     assert_eq!(values::session_text(&session), text);
     assert_eq!(values::parse_session(&text), Some(session));
     assert_eq!(values::parse_session("-"), Some(Session::unlisted()));
-    let twice = format!("{text},{text}");
+    let empty = format!("6={}", values::slot_text(&Slot::UNLISTED));
+    let (five, last) = text.split_once(',').unwrap();
     for wrong in [
         "",
         "5",
         "5=",
+        ",",
+        &empty,
         &text[1..],
-        &twice,
+        &format!("{text},{text}"),
+        &format!("{five},{five}"),
+        &format!("{last},{five}"),
+        &format!("{five},{empty},{last}"),
+        &format!("{five},,{last}"),
+        &format!("{text},"),
+        &format!(",{text}"),
+        &format!("{text},-"),
         &text.replace("32=", "33="),
+        &text.replace("5=", "0="),
+        &text.replace("5=", "05="),
+        &text.replace("5=6:", "5=4294967296:"),
+        &text.replace(":255", ":256"),
+        &text.replace(":255", ":0255"),
     ] {
         assert_eq!(values::parse_session(wrong), None, "{wrong:?}");
     }
-    assert_eq!(values::parse_session(&(text + "6")), None, "status 2556");
+    let widest = text.replace("5=6:", "5=4294967295:");
+    assert!(values::parse_session(&widest).is_some());
 }
 
 #[test]
 fn generated_calls_are_read_back() {
-    let calls = Calls::new(5, &[], false).unwrap();
+    let calls = Calls::new(5, &["line".to_string()]).unwrap();
     for index in 0..1000 {
         let (kind, call) = calls.at(index);
         let line = call.line();
         assert!(line.len() < 60000, "call {index} has {} bytes", line.len());
         assert_eq!(kind.trim_end_matches('@'), call.name());
-        assert_eq!(line.contains('@'), kind.ends_with('@'));
+        assert_eq!(line.contains(&b'@'), kind.ends_with('@'));
         assert_eq!(Call::parse(&line), Some(call), "call {index}");
     }
 }
 
 #[test]
 fn lines_that_are_no_call() {
-    for line in [
-        "",
-        "fresh\t",
-        "Fresh",
-        "update",
-        "digest\t00\t00",
-        "ask\t-\t-",
-        "finish\t-",
-    ] {
-        assert_eq!(Call::parse(line), None, "{line:?}");
+    for line in lines::NO_CALLS {
+        assert_eq!(Call::parse(line), None, "{}", line.escape_ascii());
     }
+}
+
+#[test]
+fn strange_lines_that_are_a_call() {
+    for (line, answers) in lines::CALLS {
+        let call = Call::parse(line).unwrap();
+        assert_eq!(answer(&call).as_deref(), Some(answers));
+        assert_eq!(call.line(), line);
+    }
+}
+
+/// What is read is what would be written: each value has one text.
+#[test]
+fn a_line_that_is_a_call_is_the_call_s_line() {
+    let calls = Calls::new(6, &[]).unwrap();
+    let lines = (0..20000).map(|index| calls.at(index));
+    let mut still = 0;
+    for (_, call) in lines.filter(|(kind, _)| *kind == "line") {
+        let line = call.line();
+        if let Some(call) = Call::parse(&line) {
+            assert_eq!(call.line(), line, "{}", line.escape_ascii());
+            still += 1;
+        }
+    }
+    assert!(still > 50, "{still} lines are a call");
+}
+
+#[test]
+fn each_line_has_one_answer_and_the_last_needs_its_end() {
+    let answered = |input: &[u8]| {
+        let mut out = Vec::new();
+        answer_lines(input, &mut out).unwrap();
+        String::from_utf8(out).unwrap()
+    };
+    assert_eq!(answered(b""), "");
+    assert_eq!(answered(b"\n"), "?\n");
+    assert_eq!(answered(b"remove_number\t-\n\n"), "14\n?\n");
+    assert_eq!(answered(b"remove_number\t-\nremove_number\t-"), "14\n?\n");
+    assert_eq!(answered(b"remove_number\t-\r\n\xff\n"), "?\n?\n");
+    let long = [&[b'0'; 700000][..], b"\nremove_number\t-\n"].concat();
+    assert_eq!(answered(&long), "?\n14\n");
 }

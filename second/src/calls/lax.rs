@@ -1,0 +1,77 @@
+//! Wrong answers of a program that takes more lines than it should. Each mends
+//! a line that is no call, and answers it if it is one then.
+
+use crate::calls::answer::answer;
+use crate::calls::call::Call;
+use crate::calls::values::MOST_BYTES;
+
+fn mended(call: &Call, mend: fn(&[u8]) -> Vec<u8>) -> Option<String> {
+    let Call::Line { line } = call else {
+        return None;
+    };
+    match Call::parse(line) {
+        Some(_) => None,
+        None => answer(&Call::parse(&mend(line))?),
+    }
+}
+
+/// Tabs in a row count as one, and those around the line as none.
+pub fn tabs_joined(call: &Call) -> Option<String> {
+    mended(call, |line| {
+        let fields = line.split(|byte| *byte == b'\t');
+        let full: Vec<&[u8]> = fields.filter(|field| !field.is_empty()).collect();
+        full.join(&b'\t')
+    })
+}
+
+/// A CR before the LF is dropped.
+pub fn return_taken(call: &Call) -> Option<String> {
+    mended(call, |line| {
+        line.strip_suffix(b"\r").unwrap_or(line).to_vec()
+    })
+}
+
+/// Capital letters are small ones.
+pub fn capitals_taken(call: &Call) -> Option<String> {
+    mended(call, <[u8]>::to_ascii_lowercase)
+}
+
+/// The zeros in front of the last field's number are dropped.
+pub fn zeros_taken(call: &Call) -> Option<String> {
+    mended(call, |line| {
+        let last = line
+            .iter()
+            .rposition(|byte| *byte == b'\t')
+            .map_or(0, |tab| tab + 1);
+        let (before, number) = line.split_at(last);
+        let zeros = number.iter().take_while(|byte| **byte == b'0').count();
+        [before, &number[zeros..]].concat()
+    })
+}
+
+/// A session's slots may come in any order.
+pub fn slots_sorted(call: &Call) -> Option<String> {
+    mended(call, |line| {
+        let fields = line.split(|byte| *byte == b'\t');
+        let sorted: Vec<Vec<u8>> = fields.map(sort_slots).collect();
+        sorted.join(&b'\t')
+    })
+}
+
+fn sort_slots(field: &[u8]) -> Vec<u8> {
+    let mut slots: Vec<&[u8]> = field.split(|byte| *byte == b',').collect();
+    // One digit comes before two, so that 9 comes before 10.
+    slots.sort_by_key(|slot| (slot.iter().position(|byte| *byte == b'='), *slot));
+    slots.join(&b',')
+}
+
+/// What does not fit is dropped.
+pub fn cut_short(call: &Call) -> Option<String> {
+    mended(call, |line| {
+        let fields = line.split(|byte| *byte == b'\t');
+        let cut: Vec<&[u8]> = fields
+            .map(|field| &field[..field.len().min(2 * MOST_BYTES)])
+            .collect();
+        cut.join(&b'\t')
+    })
+}

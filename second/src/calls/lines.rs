@@ -1,0 +1,254 @@
+//! Lines that are no call, or just still one: everything that the page of
+//! calls leaves no room for, in a line of every call.
+
+use crate::calls::answer::answer;
+use crate::calls::call::Call;
+use crate::calls::kinds::{self, Wish};
+use crate::calls::values::{slot_text, MOST_BYTES};
+use crate::making::random::Random;
+use crate::session::Slot;
+use std::ops::Range;
+
+/// Lines that are no call, each for a reason of its own.
+pub const NO_CALLS: [&[u8]; 52] = [
+    b"",
+    b"\t",
+    b"?",
+    b"\r",
+    b"\0",
+    b"line",
+    b"Fresh",
+    b"FRESH",
+    b"fres",
+    b"freshh",
+    b"fresh ",
+    b" fresh",
+    b"fresh\r",
+    b"fresh\x0b",
+    b"fresh\0",
+    b"fresh\0\tx",
+    b"fresh\t",
+    b"\tfresh",
+    b"fresh\t-",
+    b"digest",
+    b"digest\t",
+    b"digest\t\t",
+    b"digest\t\t00",
+    b"digest\t00\t",
+    b"\tdigest\t00",
+    b"digest 00",
+    b"digest\t00\t00",
+    b"digest\t--",
+    b"digest\t-00",
+    b"digest\t00-",
+    b"digest\t0",
+    b"digest\t000",
+    b"digest\t0g",
+    b"digest\t0A",
+    b"digest\t0x00",
+    b"digest\t00 ",
+    b"digest\t 00",
+    b"digest\t00\r",
+    b"digest\t@",
+    b"digest\t@00",
+    b"digest\t@-1",
+    b"digest\t@ff",
+    b"digest\t@18446744073709551616",
+    b"pad_write\t-\t@64",
+    b"pad_write\t-\t@0",
+    b"ask\t\t5",
+    b"ask\t--\t5",
+    b"ask\t,\t5",
+    b"ask\t-\t05",
+    b"ask\t-\t+5",
+    b"ask\t-\t@5",
+    b"ask\t-\t18446744073709551616",
+];
+
+/// Lines that are a call though they look strange, and what they are answered.
+pub const CALLS: [(&[u8], &str); 7] = [
+    (b"ask\t-\t0", "5\t0\t0"),
+    (b"ask_in_place\t-\t18446744073709551615", "5\t0\t0"),
+    (b"remove_number\t-", "14"),
+    (b"remove_part\t@18446744073709551615", "0\t0\t-"),
+    (b"sheet_read\t@0", "1\t1\t-"),
+    (b"pad_write\t@18446744073709551615\t-", "10\t0\t-"),
+    (b"block_part\t-\t@63\t0", "0\t0\t0\t-"),
+];
+
+/// By turns one of the lines above, a long one, or one that is made out of a
+/// call's. None asks for bytes that are not there.
+pub fn line(wish: &mut Wish) -> Call {
+    let (round, turn) = (wish.ordinal as usize / 16, wish.ordinal as usize % 16);
+    let line = match turn {
+        0 | 1 => fixed(2 * round + turn),
+        2 if round.is_multiple_of(4) => long(round / 4),
+        _ => spoilt(wish),
+    };
+    let call = Call::Line { line };
+    match answer(&call) {
+        Some(_) => call,
+        None => Call::Line { line: Vec::new() },
+    }
+}
+
+/// The lines above, one after the other.
+fn fixed(turn: usize) -> Vec<u8> {
+    let strange = CALLS.map(|(line, _)| line);
+    let all = [&NO_CALLS[..], &strange].concat();
+    all[turn % all.len()].to_vec()
+}
+
+/// The longest calls, and lines longer than any.
+fn long(turn: usize) -> Vec<u8> {
+    let bytes = |count: usize| vec![b'a'; 2 * count];
+    let two = |number: &str| {
+        let most = bytes(MOST_BYTES);
+        [
+            b"block_number\t",
+            &most[..],
+            b"\t",
+            &most,
+            b"\t",
+            number.as_bytes(),
+        ]
+        .concat()
+    };
+    match turn % 8 {
+        0 => [b"digest\t", &bytes(MOST_BYTES)[..]].concat(),
+        1 => [b"digest\t", &bytes(MOST_BYTES + 1)[..]].concat(),
+        2 => two("18446744073709551615"),
+        3 => two("184467440737095516150"),
+        4 => [b"digest\t", &bytes(279_996)[..]].concat(),
+        5 => [b"digest\t", &bytes(279_997)[..]].concat(),
+        6 => [b"fresh\t", &vec![b'\t'; 600_000][..]].concat(),
+        _ => [b"fresh", &vec![0; 300_000][..]].concat(),
+    }
+}
+
+type Spoil = fn(&mut Random, &mut Vec<u8>);
+
+/// Every way to spoil the line of any call.
+const SPOILS: [Spoil; 27] = [
+    |_, line| line.insert(0, b'\t'),
+    |_, line| line.push(b'\t'),
+    |_, line| line.push(b'\r'),
+    |_, line| line.push(0),
+    |_, line| line.extend_from_slice(b"\t-"),
+    |random, line| tab(random, line, b"\t\t"),
+    |random, line| tab(random, line, b"\t\t\t"),
+    |random, line| tab(random, line, b" "),
+    |random, line| tab(random, line, b""),
+    |random, line| number(random, line, |old| [b"0", old].concat()),
+    |random, line| number(random, line, |old| [&[b'0'; 20], old].concat()),
+    |random, line| number(random, line, |old| [b"+", old].concat()),
+    |random, line| number(random, line, |old| [old, b"."].concat()),
+    |random, line| number(random, line, |_| b"".to_vec()),
+    |random, line| number(random, line, |_| b"-".to_vec()),
+    |random, line| number(random, line, |_| b"256".to_vec()),
+    |random, line| number(random, line, |_| b"4294967296".to_vec()),
+    |random, line| number(random, line, |_| b"18446744073709551616".to_vec()),
+    |random, line| argument(random, line, |_| b"".to_vec()),
+    |random, line| argument(random, line, |_| b"@5".to_vec()),
+    |random, line| argument(random, line, |old| [old, b"0"].concat()),
+    |random, line| argument(random, line, |old| old[1..].to_vec()),
+    slots,
+    slots,
+    slots,
+    |random, line| capital(random, line),
+    any_byte,
+];
+
+/// The line of a call of every kind in turn, spoilt in every way in turn.
+fn spoilt(wish: &mut Wish) -> Vec<u8> {
+    let ordinal = wish.ordinal as usize;
+    let mut line = kinds::any(wish.seed, ordinal / SPOILS.len(), wish.ordinal).line();
+    SPOILS[ordinal % SPOILS.len()](&mut wish.random, &mut line);
+    line
+}
+
+/// The pieces of a line between these bytes.
+fn pieces(line: &[u8], between: &[u8]) -> Vec<Range<usize>> {
+    let mut from = 0;
+    let lengths = line.split(|byte| between.contains(byte)).map(<[u8]>::len);
+    lengths
+        .map(|length| {
+            let piece = from..from + length;
+            from = piece.end + 1;
+            piece
+        })
+        .collect()
+}
+
+fn put(line: &mut Vec<u8>, place: Range<usize>, with: &[u8]) {
+    line.splice(place, with.iter().copied()).for_each(drop);
+}
+
+/// Other bytes in a tab's place, or at the end where there is none.
+fn tab(random: &mut Random, line: &mut Vec<u8>, with: &[u8]) {
+    let fields = pieces(line, b"\t");
+    let end = fields[random.index(fields.len())].end;
+    put(line, end..line.len().min(end + 1), with);
+}
+
+/// Something else for a run of digits that may be a number.
+fn number(random: &mut Random, line: &mut Vec<u8>, other: fn(&[u8]) -> Vec<u8>) {
+    let mut all = pieces(line, b"\t:=,@");
+    all.retain(|piece| piece.len() <= 20 && line[piece.clone()].iter().all(u8::is_ascii_digit));
+    all.push(line.len()..line.len());
+    let place = all[random.index(all.len())].clone();
+    let with = other(&line[place.clone()]);
+    put(line, place, &with);
+}
+
+/// Something else for one of the arguments, if there are any.
+fn argument(random: &mut Random, line: &mut Vec<u8>, other: fn(&[u8]) -> Vec<u8>) {
+    let fields = pieces(line, b"\t");
+    if fields.len() > 1 {
+        let place = fields[random.within(1, fields.len() as u64 - 1) as usize].clone();
+        let with = other(&line[place.clone()]);
+        put(line, place, &with);
+    }
+}
+
+/// A session's slots in another order, twice, or with one that is empty. What
+/// is no session is treated as one.
+fn slots(random: &mut Random, line: &mut Vec<u8>) {
+    let place = pieces(line, b"\t").get(1).cloned().unwrap_or_default();
+    let field = line[place.clone()].to_vec();
+    let mut slots: Vec<&[u8]> = field.split(|byte| *byte == b',').collect();
+    let empty = format!("32={}", slot_text(&Slot::UNLISTED)).into_bytes();
+    let twice = slots[random.index(slots.len())];
+    match random.below(7) {
+        0 => slots.reverse(),
+        1 => slots.push(twice),
+        2 if field == b"-" => slots = vec![&empty],
+        2 => slots.push(&empty),
+        3 => slots.push(b"-"),
+        4 => slots.insert(0, b""),
+        5 => slots.push(b""),
+        _ => slots.rotate_left(1),
+    }
+    put(line, place, &slots.join(&b','));
+}
+
+/// Every small letter from one place on is made a capital.
+fn capital(random: &mut Random, line: &mut [u8]) {
+    let from = random.index(line.len());
+    line[from..].make_ascii_uppercase();
+}
+
+/// A byte more, less or another, anywhere; never LF, which would end the line.
+fn any_byte(random: &mut Random, line: &mut Vec<u8>) {
+    let place = random.index(line.len());
+    let any = match random.below(3) {
+        0 => random.word() as u8,
+        _ => random.pick(b"0123456789afAF\t\t:=,@-+ \r\0"),
+    };
+    let byte = if any == b'\n' { b'\t' } else { any };
+    match random.below(3) {
+        0 => line.insert(place, byte),
+        1 => line[place] = byte,
+        _ => drop(line.remove(place)),
+    }
+}
