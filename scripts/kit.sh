@@ -1,17 +1,25 @@
-# Where the Rattle kit is, and how an x86-64 program of it is run on this machine. Sourced, from any folder.
+# Where the Rattle kit is, and how an x86-64 program of it is run on this machine. Sourced, from any folder; what NEEDS lists must be there beside rt.
 # Sets KIT and TOOLCHAIN; `run_x86 PROGRAM WORDS..` runs a program that rt made, or `link_x86` below.
 
-need() { # need TOOL..: one clear line where a tool is missing
-    local tool
+need() { # need TOOL..: one clear line for all that is missing
+    local tool missing=
     for tool in "$@"; do
-        command -v "$tool" >/dev/null 2>&1 || {
-            echo "$(basename "$0"): '$tool' is not on this machine's PATH" >&2
-            exit 1
-        }
+        command -v "$tool" >/dev/null 2>&1 || missing="$missing $tool"
     done
+    [ -z "$missing" ] || {
+        echo "$(basename "$0"): not on this machine's PATH:$missing" >&2
+        exit 1
+    }
 }
 
-need rt
+same_kit() { # same_kit FILE: a warning where this is another kit than the one that FILE names
+    local here there
+    here=$(rt version)
+    there=$(cat "$1")
+    [ "$here" = "$there" ] || echo "$(basename "$0"): warning: this is '$here', and the repository was proved with '$there'" >&2
+}
+
+need rt ${NEEDS-}
 unset CDPATH
 KIT=$(rt doc) || exit 1
 KIT=$(dirname "$(dirname "$KIT")")
