@@ -4,5 +4,6 @@ pub mod Calls
 pub mod Elements
 pub mod Fields
 pub mod Lend
+pub mod Slices
 pub mod Loops
 pub mod Ends

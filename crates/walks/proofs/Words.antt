@@ -24,13 +24,13 @@ pub use denote.Memory.{partAt}
 pub use denote.Laws.{Is}
 pub use denote.Plain.{uint-makes, uint-vals, uint-tells}
 pub use denote.Builtin.{u8, u32, u64, usize}
-pub use denote.Ref.{RefT, NamedLft, ptr-vals, mut-tells, shr-tells}
+pub use denote.Ref.{RefT, NamedLft, ShrRef, at-last, ptr-vals, mut-tells, shr-tells, shr-copy}
 pub use denote.Signature.{plain, namedLft}
-pub use denote.Slice.{sliceVal, ShrSlice, slice-vals, shr-slice-tells, shr-slice-lawful, shr-slice-copy}
+pub use denote.Slice.{sliceVal, MutSlice, ShrSlice, slice-vals, mut-slice-tells, mut-slice-lawful, shr-slice-tells, shr-slice-lawful, shr-slice-copy}
 pub use denote.Steps.{owned, nothing}
 pub use denote.Triple.Statement.{Contract, Triple}
 pub use denote.Triple.Entry.{onEntry}
 pub use denote.Triple.Spec.{tripleOf}
 pub use denote.Triple.Table.{cited}
-pub use denote.Triple.Walked.{Stays, stay-ref, stay-none, stay-none-ref, stay-none-slice, walkOf, goes-ref, goes-none, goes-none-ref, goes-none-slice}
+pub use denote.Triple.Walked.{Stays, stay-ref, stay-slice, stay-none, stay-none-ref, stay-none-slice, walkOf, goes-ref, goes-slice, goes-none, goes-none-ref, goes-none-slice}
 pub use denote.Exit.{yes}
