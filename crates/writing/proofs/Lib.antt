@@ -1,0 +1,5 @@
+pub mod Laying
+pub mod Sizes
+pub mod Lines
+pub mod Notes
+pub mod Proved

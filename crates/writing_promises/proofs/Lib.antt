@@ -1,0 +1,6 @@
+pub mod Spelled
+pub mod OneText
+pub mod Members
+pub mod Entries
+pub mod Again
+pub mod Proved
