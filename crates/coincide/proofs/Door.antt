@@ -5,11 +5,14 @@ use mathlib.Core.List.{List}
 use denote.Ref.{now}
 use Rattle.session.specs.declared.Session.{Session}
 use Rattle.hash.specs.declared.Hash.{Hash}
-use Rattle.coincide.specs.Coincide.{Coincide, CoincideAt, Says}
+use Rattle.writing.specs.Promises.{Row}
+use Rattle.writing.proofs.Proved.{proved as writing}
+use Rattle.coincide.specs.Coincide.{Coincide, CoincideAt, Means, Says}
 use Rattle.door.proofs.vs_update_in_place as vs-update-in-place′
 use Rattle.door.proofs.vs_deliver_in_place as vs-deliver-in-place′
 use Rattle.door.proofs.vs_ask_in_place as vs-ask-in-place′
 use Rattle.door.proofs.vs_sheet_read_in_place as vs-sheet-read-in-place′
+use Rattle.door.proofs.vs_sheet_write as vs-sheet-write′
 use Rattle.door.proofs.vs_fold as vs-fold′
 use Rattle.door.proofs.vs_fresh as vs-fresh′
 use Rattle.door.proofs.vs_update as vs-update′
@@ -49,6 +52,16 @@ vs-sheet-read-in-place-says = record { claim = _; stated = λ M 𝓤 H A mem run
 
 pub vs-sheet-read-in-place : CoincideAt vs-sheet-read-in-place′.ended Session (λ κs e. now (e .0)) (vs-sheet-read-in-place-says .claim)
 vs-sheet-read-in-place κs a x y e f p q = (p .0 ∙ sym (q .0), p .1 ∙ sym (q .1))
+
+abbrev pub vs-sheet-write-says : Says vs-sheet-write′.ended (λ M. vs-sheet-write′.clauses {M = M})
+vs-sheet-write-says = record { claim = _; stated = λ M 𝓤 H A mem run κs a g r e. refl }
+
+pub vs-sheet-write : CoincideAt vs-sheet-write′.ended (List ℕ) (λ κs e. now (e .1 .0)) (vs-sheet-write-says .claim)
+vs-sheet-write κs a x y e f p q = (p .0 ∙ sym (q .0), p .1 ∙ sym (q .1))
+
+-- what meets the contract is the row of the table for writing that holds of this session and this buffer
+pub vs-sheet-write-rows : Means vs-sheet-write′.ended (vs-sheet-write-says .claim) (λ κs a r e. Row (now (a .0)) (now (a .1 .0)) r (now (e .1 .0)))
+vs-sheet-write-rows κs a r e = writing .table (now (a .0)) (now (a .1 .0)) r (now (e .1 .0))
 
 pub vs-fold : Coincide vs-fold′.ended vs-fold′.Reads.Post
 vs-fold κs a x y e f p q = p ∙ sym q

@@ -20,4 +20,7 @@ pub mod Sheet
 pub mod Reader
 pub mod HashInPlace
 pub mod SessionInPlace
+pub mod Writing
+pub mod Writer
 pub mod Door
+pub mod Lent

@@ -1,13 +1,13 @@
 -- A function that passes its parameters on to another, and answers what that answers: whatever the other promises, it promises. Nothing is lent again: each reference is given to the callee for good.
 --     Storable         what is promised of a result says that it may be laid in a local
---     hands-two, lends-one, lends-two      the call at given values, by the shape of the code: two parameters as they are; a `&mut` and one more; a `&mut` and two more
+--     hands-two, lends-one, lends-two, lends-bytes      the call at given values, by the shape of the code: two parameters as they are; a `&mut` and one more; a `&mut` and two more; one and a `&mut [u8]`
 --     passes-on        so the function meets the contract of the one that it calls, at any `ensures` that the callee's gives
 -- Assumes `Given`; `passes-on` assumes nothing.
 use mathlib.Core.Path.{_≡_, refl, sym, subst}
 use Prim.Native.Nat.{ℕ}
 use mathlib.Core.List.{List, [], _∷_}
 use lib.Dec.{T as Holds}
-use mir.Syntax.{Ty, Name, Home, local, Place, place, Opd as Operand, copy, deref, addrOf, Fn, seq, assign, call, return}
+use mir.Syntax.{Ty, tyRef, mut, tyInt, w8, named, Name, Home, local, Place, place, Opd as Operand, copy, deref, field, addrOf, aggregate, Fn, seq, assign, call, return}
 use mir.Val.{hasTy, WT}
 use base.Logic.{guard, guardI, via, fst∗, snd∗, exI, exE}
 use prog.Wp.{Env, Closed}
@@ -22,17 +22,22 @@ use types.Run.{Opds}
 use denote.RattleType.{RattleType, flat, owns, mirs}
 use denote.Laws.{Typed, Lawful, Lawfuls, Are, Ises, Spells, Tellss, valss, all-tell, all-typed, owns-show, showss, shows}
 use denote.Signature.{Signature, typeAt, typesAt}
+use denote.Slice.{sliceTy}
 use denote.Triple.Entry.{Args, Vals, Res, alive}
 use denote.Triple.Call.{calls-from}
 use denote.Triple.Spec.{Spec, Back}
 use denote.Triple.Clauses.{Ended, Clauses, Lasts, AtExit, atExit, closing}
 use denote.Triple.Weaken.{weaken}
 use denote.Triple.Table.{entered}
-use Rattle.walks.proofs.Words.{URA, Val, vptr, SProp, ent, sep, id⊢, Heap, Calls, Loops, WpFn, Atoms, FmC, givenOf, tables, Lfts, Given, Item, raw, _$_, move, use1, look, init, stop, hop, from, load, and-then, no-more, addr, assigns, land, returns, alloc1, alloc0, params1, pass1, pass0, free0, atRet, Is, Contract, Triple, onEntry, tripleOf}
+use Rattle.walks.proofs.Words.{URA, Val, vptr, SProp, ent, sep, id⊢, Heap, Calls, Loops, WpFn, Atoms, FmC, givenOf, tables, Lfts, Given, Item, raw, _$_, move, use1, look, init, stop, hop, fld, from, load, and-then, no-more, addr, agg, whole, sub, look-in, sliceVal, assigns, land, returns, alloc1, alloc0, params1, pass1, pass0, free0, atRet, Is, Contract, Triple, onEntry, tripleOf}
 use Rattle.walks.proofs.Borrow.{gone}
 
 abbrev pub Storable : {M : Type 1} (𝓤 : URA M) (H : Heap 𝓤) → List Ty → (Val → SProp 𝓤) → Type 1
 Storable 𝓤 H τs Q = (u : Val) → ent 𝓤 (Q u) (H .⇛ (guard 𝓤 (Typed τs (u ∷ [])) (Q u)))
+
+-- the MIR type of a `&mut [u8]`, as the second parameter
+abbrev Bytes : Ty
+Bytes = sliceTy (tyRef (named 1) mut (tyInt w8))
 
 -- v is a value of the type
 abbrev pub Fits : Ty → Val → Type 0
@@ -71,6 +76,17 @@ module _ {M : Type 1} {𝓤 : URA M} {H : Heap 𝓤} {A : Atoms 𝓤} {K : Type 
         alloc1 t (λ l₀. alloc1 t (λ l₁. alloc1 t (λ l₂. alloc1 t (λ l₃. alloc1 t (λ l₄. alloc0 t $ params1 t $ pass1 t (init t 6 refl p₁) $ pass1 t (init t 4 refl p₂) $ pass1 t (init t 2 refl p₃) $ pass0 t $
         assigns t (addr t (from t (hop t (look t 6 refl) (stop t)))) (from t (stop t)) (init t 0 refl p₄) $ move t (10 ∷ []) $
         answers t fm τ₀ st (and-then t (load t (from t (stop t)) (look t 1 refl)) (and-then t (load t (from t (stop t)) (look t 5 refl)) (and-then t (load t (from t (stop t)) (look t 3 refl)) (no-more t)))) (λ u p₀.
+        land t (from t (stop t)) (init t 9 refl p₀) $ returns t (look t 9 refl) $ gone t 9 refl refl $ gone t 7 refl refl $ gone t 5 refl refl $ gone t 3 refl refl $ gone t 1 refl refl $ free0 t $ done t))))))
+
+  module _ {h₀ h₁ h₂ h₃ h₄ : Home} {τ₀ τ₁ τ₃ τ₄ τ : Ty} where
+    pub lends-bytes : K → FmC 𝓤 H (W .laws) C → Storable 𝓤 H (τ₀ ∷ []) Q → {b o n : ℕ} {v : Val} → Fits τ₁ v → Fits Bytes (sliceVal (b, o) n) → Fits τ₃ (vptr b o) → Fits τ₄ (sliceVal (b, o) n)
+        → Seq K W (raw (C f (v ∷ sliceVal (b, o) n ∷ []) Q) ∷ []) (allocs (local τ₀ h₀ ∷ local τ₁ h₁ ∷ local Bytes h₂ ∷ local τ₃ h₃ ∷ local τ₄ h₄ ∷ [])
+        (λ E. params′ E (v ∷ sliceVal (b, o) n ∷ []) (runs C Λ E (seq (assign (place 3 []) (addrOf (place 2 (field 0 ∷ deref τ ∷ [])))) (seq (assign (place 4 []) (aggregate (copy (place 3 []) ∷ copy (place 2 (field 1 ∷ [])) ∷ []))) (seq (call f (copy (place 1 []) ∷ copy (place 4 []) ∷ []) (place 0 [])) return))) (atRet E Q))))
+    lends-bytes t fm st p₁ p₂ p₃ p₄ =
+        alloc1 t (λ l₀. alloc1 t (λ l₁. alloc1 t (λ l₂. alloc1 t (λ l₃. alloc1 t (λ l₄. alloc0 t $ params1 t $ pass1 t (init t 6 refl p₁) $ pass1 t (init t 4 refl p₂) $ pass0 t $
+        assigns t (addr t (from t (fld t refl (hop t (look-in t 4 (sub t 0 refl (whole t))) (stop t))))) (from t (stop t)) (init t 2 refl p₃) $
+        assigns t (agg t (and-then t (load t (from t (stop t)) (look t 2 refl)) (and-then t (load t (from t (fld t refl (stop t))) (look-in t 4 (sub t 1 refl (whole t)))) (no-more t)))) (from t (stop t)) (init t 0 refl p₄) $ move t (10 ∷ []) $
+        answers t fm τ₀ st (and-then t (load t (from t (stop t)) (look t 7 refl)) (and-then t (load t (from t (stop t)) (look t 1 refl)) (no-more t))) (λ u p₀.
         land t (from t (stop t)) (init t 9 refl p₀) $ returns t (look t 9 refl) $ gone t 9 refl refl $ gone t 7 refl refl $ gone t 5 refl refl $ gone t 3 refl refl $ gone t 1 refl refl $ free0 t $ done t))))))
 
 -- what a contract promises of a result says that it may be laid in a local

@@ -2,8 +2,11 @@
 ghost use mathlib.Core.Path.{_≡_};
 ghost use Rattle.hash.specs.Update.{update as updated};
 ghost use Rattle.session.specs.Operations.{deliver as delivered, ask as asked};
+ghost use lib.ListN.{length};
 ghost use Rattle.sheet.specs.Judging.{sheetOf};
+ghost use Rattle.writing.specs.Writing.{sheetWritten, withSheet};
 use hash::Hash;
+use refusal::Written;
 use session::Session;
 use sheet::Verdict;
 use slots::Answer;
@@ -40,4 +43,13 @@ pub extern "C" fn vs_sheet_read_in_place(session: &mut Session, text: &[u8]) -> 
     ensures { λ r. ⌜ (r ≡ sheetOf (now (text .entry)) .verdict) × (now (session .exit) ≡ sheetOf (now (text .entry)) .session) ⌝ }
 {
     session_in_place::read_into(session, text)
+}
+
+// The rank sheet of a lent session, which is only read, into a lent buffer.
+#[no_mangle]
+pub extern "C" fn vs_sheet_write(session: &Session, buffer: &mut [u8]) -> Written
+    ensures { λ r. ⌜ (r ≡ sheetWritten (now (session .entry)) (length (now (buffer .entry))))
+        × (now (buffer .exit) ≡ withSheet (now (session .entry)) (now (buffer .entry))) ⌝ }
+{
+    writer::write(session, buffer)
 }

@@ -1,0 +1,5 @@
+pub mod Structs
+pub mod Slots
+pub mod Answers
+pub mod Sheets
+pub mod Turns
