@@ -1,4 +1,4 @@
-//! The second implementation of Veenstipper, written from the paper alone.
+//! The second implementation of Veenstipper, written from the papers alone.
 //!
 //! It exists to disagree with the proved one where one of the two is wrong, so
 //! it is plain and slow, and shares neither code nor table with it.
@@ -20,3 +20,4 @@ pub mod session;
 pub mod sheet;
 pub mod sm3;
 pub mod vectors;
+pub mod writing;

@@ -1,5 +1,5 @@
-//! The paper's table of refusals, by name. Nothing else writes these numbers:
-//! only the tests do, where they stand for the paper.
+//! The papers' table of refusals, by name. Nothing else writes these numbers:
+//! only the tests do, where they stand for the papers.
 
 pub const ACCEPTED: u8 = 0;
 
@@ -38,3 +38,9 @@ pub const OTHER_TAIL: u8 = 13;
 
 /// Not a padded message.
 pub const NOT_PADDED: u8 = 14;
+
+/// No note listed, where a sheet is to be written.
+pub const NONE_LISTED: u8 = 15;
+
+/// Buffer shorter than the sheet.
+pub const SHORT_BUFFER: u8 = 16;

@@ -8,6 +8,7 @@ use crate::refusal::{ACCEPTED, DECIDED, NOT_PADDED, PAST_LENGTH};
 use crate::session::{self, Answer, Session, WAITING};
 use crate::sheet::{self, Sheet};
 use crate::sm3;
+use crate::writing;
 
 /// The answers, tab-parted. Nothing where bytes would be needed that are not
 /// there: such a call may not be made.
@@ -41,6 +42,7 @@ pub fn answer(call: &Call) -> Option<String> {
             ..
         } => deliver(session, *note, piece),
         Call::Ask { session, note, .. } => Some(answer_text(&session.ask(*note))),
+        Call::SheetWrite { session, buffer } => Some(sheet_write(session, buffer)),
         Call::Line { line } => answer_line(line),
     }
 }
@@ -202,6 +204,12 @@ fn deliver_absent(session: &Session, note: u64, length: u64) -> Option<Answer> {
         number: PAST_LENGTH,
         ..asked
     })
+}
+
+fn sheet_write(session: &Session, buffer: &[u8]) -> String {
+    let mut after = buffer.to_vec();
+    let written = writing::write(session, &mut after);
+    written_text(written.number, written.count, &after)
 }
 
 pub fn updated_text(number: u8, after: &State) -> String {

@@ -63,6 +63,10 @@ pub enum Call {
         session: Box<Session>,
         note: u64,
     },
+    SheetWrite {
+        session: Box<Session>,
+        buffer: Vec<u8>,
+    },
     /// A line as it stands, which may be no call at all.
     Line {
         line: Vec<u8>,
@@ -87,6 +91,7 @@ impl Call {
             }
             Call::Deliver { in_place, .. } => either(*in_place, "deliver_in_place", "deliver"),
             Call::Ask { in_place, .. } => either(*in_place, "ask_in_place", "ask"),
+            Call::SheetWrite { .. } => "sheet_write",
             Call::Line { .. } => "line",
         }
     }
@@ -123,6 +128,9 @@ impl Call {
                 ..
             } => vec![session_text(session), note.to_string(), lent_text(piece)],
             Call::Ask { session, note, .. } => vec![session_text(session), note.to_string()],
+            Call::SheetWrite { session, buffer } => {
+                vec![session_text(session), bytes_text(buffer)]
+            }
             Call::Line { .. } => vec![],
         }
     }
@@ -229,6 +237,10 @@ fn session_call(name: &str, arguments: &[&str]) -> Option<Call> {
             in_place: name == "ask_in_place",
             session: session(before)?,
             note: values::parse_number(note)?,
+        }),
+        ("sheet_write", [slots, buffer]) => Some(Call::SheetWrite {
+            session: session(slots)?,
+            buffer: values::parse_bytes(buffer)?,
         }),
         _ => None,
     }

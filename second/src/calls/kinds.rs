@@ -1,7 +1,7 @@
 //! The kinds of calls, and which call comes at an index.
 
 use crate::calls::call::Call;
-use crate::calls::{lines, paddings, sessions, states};
+use crate::calls::{lines, paddings, sessions, states, writings};
 use crate::making::random::Random;
 use crate::making::turns::{turn, Weighted};
 
@@ -42,7 +42,7 @@ impl Weighted for Kind {
     }
 }
 
-const KINDS: [Kind; 35] = [
+const KINDS: [Kind; 36] = [
     kind("fresh", "fresh", 1, states::fresh),
     kind("fold", "fold", 4, states::fold),
     kind("update", "update", 12, states::update),
@@ -62,6 +62,7 @@ const KINDS: [Kind; 35] = [
     kind("deliver_in_place", "deliver", 18, sessions::deliver),
     kind("ask", "ask", 13, sessions::ask),
     kind("ask_in_place", "ask", 13, sessions::ask),
+    kind("sheet_write", "write", 14, writings::sheet_write),
     kind("line", "line", 8, lines::line),
     kind("fold@", "fold@", 1, states::fold_absent),
     kind("update@", "update@", 1, states::update_absent),

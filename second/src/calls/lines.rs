@@ -10,7 +10,7 @@ use crate::session::Slot;
 use std::ops::Range;
 
 /// Lines that are no call, each for a reason of its own.
-pub const NO_CALLS: [&[u8]; 52] = [
+pub const NO_CALLS: [&[u8]; 55] = [
     b"",
     b"\t",
     b"?",
@@ -63,10 +63,13 @@ pub const NO_CALLS: [&[u8]; 52] = [
     b"ask\t-\t+5",
     b"ask\t-\t@5",
     b"ask\t-\t18446744073709551616",
+    b"sheet_write\t-",
+    b"sheet_write\t-\t@64",
+    b"sheet_write\t-\t@0",
 ];
 
 /// Lines that are a call though they look strange, and what they are answered.
-pub const CALLS: [(&[u8], &str); 7] = [
+pub const CALLS: [(&[u8], &str); 8] = [
     (b"ask\t-\t0", "5\t0\t0"),
     (b"ask_in_place\t-\t18446744073709551615", "5\t0\t0"),
     (b"remove_number\t-", "14"),
@@ -74,6 +77,7 @@ pub const CALLS: [(&[u8], &str); 7] = [
     (b"sheet_read\t@0", "1\t1\t-"),
     (b"pad_write\t@18446744073709551615\t-", "10\t0\t-"),
     (b"block_part\t-\t@63\t0", "0\t0\t0\t-"),
+    (b"sheet_write\t-\t-", "15\t0\t-"),
 ];
 
 /// By turns one of the lines above, a long one, or one that is made out of a

@@ -6,11 +6,13 @@ pub mod call;
 pub mod kinds;
 pub mod lax;
 pub mod lines;
+pub mod miswritten;
 pub mod paddings;
 pub mod sessions;
 pub mod slips;
 pub mod states;
 pub mod values;
+pub mod writings;
 
 use crate::options::Options;
 use crate::report::Report;
@@ -197,6 +199,7 @@ pub fn answer_kind(call: &Call, ours: &str) -> String {
             format!("compared-{same}")
         }
         (Call::Deliver { .. }, ["0", status, ..]) => format!("delivered-{status}"),
+        (Call::SheetWrite { .. }, [number, ..]) => format!("sheet-write-{number}"),
         (_, [number, ..]) => format!("number-{number}"),
         (_, []) => unreachable!("a split gives one field at least"),
     }

@@ -182,6 +182,40 @@ pub fn slot(random: &mut Random, turn: u64) -> (Slot, Vec<u8>) {
     (slot, rest)
 }
 
+/// A listed slot in order: nothing taken, half loaded, open or shut.
+pub fn in_order(random: &mut Random) -> Slot {
+    let (slot, _) = waiting(random);
+    match random.below(4) {
+        0 => Slot {
+            state: State::fresh(),
+            ..slot
+        },
+        1 => decided_slot(slot.record, OPEN),
+        2 => decided_slot(slot.record, SHUT),
+        _ => slot,
+    }
+}
+
+/// A listed slot that is not in order.
+pub fn spoilt(random: &mut Random) -> Slot {
+    loop {
+        let turn = random.word();
+        let (slot, _) = slot(random, turn);
+        if slot.status != NONE && !slot.in_order() {
+            return slot;
+        }
+    }
+}
+
+/// A slot that lists no note, whatever else it holds.
+pub fn unlisted(random: &mut Random) -> Slot {
+    let turn = random.word();
+    Slot {
+        status: NONE,
+        ..slot(random, turn).0
+    }
+}
+
 fn decided_slot(record: Record, status: u8) -> Slot {
     Slot {
         record,

@@ -7,6 +7,7 @@ use crate::calls::answer::{
 };
 use crate::calls::call::Call;
 use crate::calls::lax;
+use crate::calls::miswritten;
 use crate::calls::values::Lent;
 use crate::folders::slips::{loop_below, part_taken};
 use crate::hash::{Compared, Digested, State};
@@ -23,8 +24,9 @@ pub struct Slip {
     pub answer: fn(&Call) -> Option<String>,
 }
 
-/// Every slip: of padding, of hash, of session, of sheet, of reading a line.
-pub const SLIPS: [Slip; 24] = [
+/// Every slip: of padding, of hash, of session, of reading a sheet, of writing
+/// one, of reading a line.
+pub const SLIPS: [Slip; 45] = [
     slip("padding-one-block", one_block),
     slip("padding-rest-cleared", rest_cleared),
     slip("padding-inside-unjudged", inside_unjudged),
@@ -43,6 +45,27 @@ pub const SLIPS: [Slip; 24] = [
     slip("session-decided-unjudged", decided_unjudged),
     slip("sheet-loop-below", sheet_loop_below),
     slip("sheet-refused-lists", refused_lists),
+    slip("writing-short-before-slots", miswritten::short_before_slots),
+    slip("writing-short-before-none", miswritten::short_before_none),
+    slip("writing-none-before-slots", miswritten::none_before_slots),
+    slip("writing-exact-refused", miswritten::exact_refused),
+    slip("writing-short-accepted", miswritten::short_accepted),
+    slip("writing-short-filled", miswritten::short_filled),
+    slip("writing-refused-begun", miswritten::refused_begun),
+    slip("writing-refused-counted", miswritten::refused_counted),
+    slip("writing-rest-cleared", miswritten::rest_cleared),
+    slip("writing-unlisted-judged", miswritten::unlisted_judged),
+    slip("writing-first-unjudged", miswritten::first_unjudged),
+    slip("writing-last-unjudged", miswritten::last_unjudged),
+    slip("writing-states-unjudged", miswritten::states_unjudged),
+    slip("writing-status-unlisted", miswritten::status_unlisted),
+    slip("writing-open-left-out", miswritten::open_left_out),
+    slip("writing-begun-left-out", miswritten::begun_left_out),
+    slip("writing-taken-for-length", miswritten::taken_for_length),
+    slip("writing-capitals", miswritten::capitals),
+    slip("writing-two-digits", miswritten::two_digits),
+    slip("writing-zero-empty", miswritten::zero_empty),
+    slip("writing-tens-narrow", miswritten::tens_narrow),
     slip("line-tabs-joined", lax::tabs_joined),
     slip("line-return-taken", lax::return_taken),
     slip("line-capitals-taken", lax::capitals_taken),

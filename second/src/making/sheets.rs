@@ -226,7 +226,7 @@ fn long(random: &mut Random, ordinal: u64) -> Vec<u8> {
 }
 
 /// The record whose line is the longest: the loop starts with ten digits too.
-fn longest(random: &mut Random) -> Record {
+pub fn longest(random: &mut Random) -> Record {
     Record {
         length: 4294967294,
         loop_start: 2147483645,

@@ -1,6 +1,7 @@
 //! The driver over orders: deliveries to several notes are made in one order
 //! and in another that keeps each note's own. Each must have the same answer in
-//! both, and the session at the end must be the same.
+//! both, and the session at the end must be the same. Then that session's sheet
+//! is written, and what was written is read again.
 //!
 //! Every call gets the session that the program answered to the one before, and
 //! this program answers every call too.
@@ -10,11 +11,12 @@ pub mod slips;
 
 use crate::calls::answer::{answer, answer_text};
 use crate::calls::call::Call;
-use crate::calls::values::{parse_session, Lent};
+use crate::calls::values::{parse_bytes, parse_session, session_text, Lent};
 use crate::calls::{answer_kind, difference};
 use crate::options::Options;
+use crate::refusal::ACCEPTED;
 use crate::report::Report;
-use crate::session::{Answer, Session};
+use crate::session::{Answer, Session, NONE, NOTES};
 use crate::sheet;
 use sequences::{Sequence, Start};
 use slips::{Slip, SLIPS};
@@ -73,6 +75,9 @@ impl Trial<'_, '_> {
         if one.is_some() && other.is_some() && one != other {
             self.report.differs(&format!("{what}: the two orders"));
         }
+        if let Some(one) = one {
+            self.written_and_read(&one.session, &sequence.buffer, &what)?;
+        }
         for slip in &self.slips {
             let wrong = |order: &[usize]| outcome(&sequence, order, slip.deliver);
             if self.report.seeks(slip.name) && wrong(&sequence.one()) != wrong(&sequence.other) {
@@ -112,9 +117,41 @@ impl Trial<'_, '_> {
         Ok(Some(Outcome { answers, session }))
     }
 
+    /// The program reads the sheet that it writes itself: it must give the same
+    /// listed records, every note waiting and nothing taken.
+    fn written_and_read(&mut self, session: &Session, buffer: &[u8], what: &str) -> io::Result<()> {
+        let written = self.said(
+            &Call::SheetWrite {
+                session: Box::new(*session),
+                buffer: buffer.to_vec(),
+            },
+            what,
+        )?;
+        let Some(text) = written.and_then(|said| sheet_of(&said)) else {
+            return Ok(());
+        };
+        let text = Lent::Bytes(text);
+        let read = self.said(&Call::SheetRead { before: None, text }, what)?;
+        let expected = format!("{ACCEPTED}\t0\t{}", session_text(&begun_again(session)));
+        if read.is_some_and(|read| read != expected) {
+            let again = format!("{what}: the sheet that was written, read again");
+            self.report.differs(&again);
+        }
+        Ok(())
+    }
+
     /// What the program answers to a call: what stands before the session, and
     /// the session, whether this program answers the same or not.
     fn asked(&mut self, call: &Call, what: &str) -> io::Result<Option<(String, Session)>> {
+        let said = self.said(call, what)?.unwrap_or_default();
+        let parted = said.rsplit_once('\t');
+        Ok(parted
+            .and_then(|(answers, session)| Some((answers.to_string(), parse_session(session)?))))
+    }
+
+    /// What the program answers to a call, whether this program answers the
+    /// same or not; nothing where it ended, and was started again.
+    fn said(&mut self, call: &Call, what: &str) -> io::Result<Option<String>> {
         let ours = answer(call).expect("a call whose bytes are there");
         self.report.answered(&answer_kind(call, &ours));
         let said = self.program.ask(call);
@@ -123,14 +160,11 @@ impl Trial<'_, '_> {
             let difference = difference(call, said, &ours);
             self.report.differs(&format!("{what}\n{difference}"));
         }
-        let Some(said) = said else {
+        if said.is_none() {
             self.program.kill()?;
             self.program = Program::start(self.options)?;
-            return Ok(None);
-        };
-        let parted = said.rsplit_once('\t');
-        Ok(parted
-            .and_then(|(answers, session)| Some((answers.to_string(), parse_session(session)?))))
+        }
+        Ok(said)
     }
 
     fn end(self) -> io::Result<()> {
@@ -141,6 +175,30 @@ impl Trial<'_, '_> {
         }
         Ok(())
     }
+}
+
+/// The sheet at the front of a buffer, where one was written.
+fn sheet_of(said: &str) -> Option<Vec<u8>> {
+    let fields: Vec<&str> = said.split('\t').collect();
+    let [number, count, buffer] = fields[..] else {
+        return None;
+    };
+    if number != ACCEPTED.to_string() {
+        return None;
+    }
+    let buffer = parse_bytes(buffer)?;
+    buffer.get(..count.parse().ok()?).map(<[u8]>::to_vec)
+}
+
+/// A session with the same listed records, of which nothing was loaded yet.
+fn begun_again(session: &Session) -> Session {
+    let mut again = Session::unlisted();
+    for (note, slot) in (1..=NOTES).zip(&session.slots) {
+        if slot.status != NONE {
+            again.list(note, slot.record);
+        }
+    }
+    again
 }
 
 /// What this program, or one with a slip, makes of a sequence in this order.

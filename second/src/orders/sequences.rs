@@ -7,6 +7,7 @@ use crate::hash;
 use crate::making::notes;
 use crate::making::random::Random;
 use crate::session::{Record, Session, NOTES};
+use crate::writing::LONGEST_SHEET;
 
 /// Where a sequence starts from.
 pub enum Start {
@@ -29,6 +30,8 @@ pub struct Sequence {
     /// of each note still in their own order.
     pub other: Vec<usize>,
     pub in_place: bool,
+    /// Where the sheet of the session at the end is written to. It always fits.
+    pub buffer: Vec<u8>,
 }
 
 impl Sequence {
@@ -85,6 +88,7 @@ pub fn at(seed: u64, index: u64) -> Sequence {
             .map(|taken| delivery(&parts, taken))
             .collect(),
         in_place: index / 2 % 2 == 1,
+        buffer: random.bytes(LONGEST_SHEET),
     }
 }
 

@@ -30,7 +30,8 @@ fn filled(call: &Call, byte: u8) -> Option<Call> {
             message, buffer, ..
         } => fill(message, byte) && fill(buffer, byte),
         Call::SheetRead { text, .. } => fill(text, byte),
-        Call::Fresh | Call::Finish { .. } | Call::Ask { .. } | Call::Line { .. } => false,
+        Call::Fresh | Call::Finish { .. } | Call::Ask { .. } => false,
+        Call::SheetWrite { .. } | Call::Line { .. } => false,
     };
     done.then_some(call)
 }

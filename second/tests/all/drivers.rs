@@ -52,7 +52,7 @@ fn every_slip_in_calls_is_found() {
     ];
     let output = drive(&folder, &arguments);
     let all = said(&output);
-    assert_eq!(all.matches(" found by call ").count(), 24, "{all}");
+    assert_eq!(all.matches(" found by call ").count(), 45, "{all}");
     assert!(!all.contains("not found"));
     assert_eq!(output.status.code(), Some(0));
 }
@@ -94,12 +94,12 @@ fn a_call_program_that_is_wrong_or_ends_is_seen() {
 fn the_call_that_ends_the_program_is_found() {
     let folder = help::folder("calls-end");
     let program = format!("sed '/^deliver\t.*@/,$d' | {SECOND} answer-calls");
-    let output = drive(&folder, &["calls", "458", "3", "sh", "-c", &program]);
+    let output = drive(&folder, &["calls", "486", "3", "sh", "-c", &program]);
     let all = said(&output);
     assert!(last_line(&output).ends_with("\tdiffer 2"), "{all}");
     assert_eq!(all.matches("(deliver@)\n").count(), 2, "{all}");
     let without = ["calls", "--without", "deliver@"];
-    let rest = ["458", "3", "sh", "-c", &program];
+    let rest = ["486", "3", "sh", "-c", &program];
     let output = drive(&folder, &[&without[..], &rest[..]].concat());
     assert!(last_line(&output).ends_with("\tdiffer 0"));
 }
@@ -135,6 +135,19 @@ fn a_program_that_peeks_at_other_slots_is_seen() {
     let output = drive(&folder, &["orders", "200", "3", "sh", "-c", &program]);
     assert!(said(&output).contains(": the two orders\n"));
     assert!(said(&output).contains("0\t1\t99\t"));
+    assert_eq!(output.status.code(), Some(1));
+}
+
+/// The program writes a loop from frame 1 where it should write one from 0, and
+/// reads what it wrote rightly: the chain of both is seen to be wrong.
+#[test]
+fn a_program_that_writes_another_sheet_than_it_was_given_is_seen() {
+    let folder = help::folder("orders-writing");
+    let other_start = "/^0\\t[0-9]*\\t52414e4b09/s/093009/093109/";
+    let program = format!("{SECOND} answer-calls | sed -u '{other_start}'");
+    let output = drive(&folder, &["orders", "200", "3", "sh", "-c", &program]);
+    let again = ": the sheet that was written, read again\n";
+    assert!(said(&output).contains(again));
     assert_eq!(output.status.code(), Some(1));
 }
 

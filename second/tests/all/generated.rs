@@ -148,7 +148,7 @@ fn no_call_needs_bytes_that_are_not_there_and_every_number_is_answered() {
             _ => drop(numbers.insert(number.unwrap())),
         }
     }
-    assert_eq!(numbers, (0..=14).collect());
+    assert_eq!(numbers, (0..=16).collect());
 }
 
 /// Each order has all deliveries, and each note's in its own order; most of

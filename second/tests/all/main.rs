@@ -18,3 +18,4 @@ mod sheet;
 mod sheet_form;
 mod values;
 mod vectors;
+mod writing;

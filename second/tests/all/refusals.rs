@@ -5,6 +5,7 @@ use second::hash::{self, State};
 use second::padding::{self, Place, Which, Written};
 use second::session::{Answer, Session};
 use second::sheet;
+use second::writing;
 
 const HIGHEST: u64 = (1 << 61) - 1;
 
@@ -186,5 +187,42 @@ fn row_14_gives_an_empty_part() {
     for bytes in [&[][..], &[0; 64], &[0x80; 63], &[0x80; 65]] {
         assert_eq!(padding::remove_number(bytes), 14);
         assert!(padding::remove_part(bytes).is_empty());
+    }
+}
+
+/// What is refused by the writer: the number, no count, the buffer as it was.
+fn refused_sheet(session: &Session, buffer_length: usize) -> u8 {
+    let mut buffer = vec![0xaa; buffer_length];
+    let written = writing::write(session, &mut buffer);
+    assert_eq!(written.count, 0);
+    assert_eq!(buffer, vec![0xaa; buffer_length]);
+    written.number
+}
+
+#[test]
+fn row_6_is_a_listed_slot_not_in_order_for_the_writer_too() {
+    let mut session = help::session_for(b"sample");
+    session.slots[31].status = 4;
+    for buffer_length in [0, 4096] {
+        assert_eq!(refused_sheet(&session, buffer_length), 6);
+    }
+}
+
+#[test]
+fn row_15_is_a_session_with_no_note_listed() {
+    for buffer_length in [0, 4096] {
+        assert_eq!(refused_sheet(&Session::unlisted(), buffer_length), 15);
+    }
+}
+
+#[test]
+fn row_16_is_a_buffer_shorter_than_the_sheet() {
+    let session = help::session_for(b"sample");
+    let mut buffer = [0xaa; 100];
+    let written = writing::write(&session, &mut buffer);
+    assert_eq!((written.number, written.count), (0, 82));
+    assert_eq!(buffer[82..], [0xaa; 18]);
+    for buffer_length in 0..82 {
+        assert_eq!(refused_sheet(&session, buffer_length), 16);
     }
 }
