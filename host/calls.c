@@ -200,6 +200,11 @@ static void put_verdict(vs_verdict v, const vs_session *s) {
     put_session(s);
 }
 
+static void put_written(vs_written w, const slice *buffer) {
+    printf("%u\t%llu\t", w.number, (unsigned long long)w.count);
+    put_hex(buffer->bytes, buffer->length);
+}
+
 static void put_part(const uint8_t *from, size_t offset, size_t length) {
     printf("%llu\t%llu\t", (unsigned long long)offset, (unsigned long long)length);
     put_hex(from + offset, length);
@@ -235,9 +240,7 @@ static void compare_state(void) { put_compared(vs_compare_state(given.state, FIR
 
 static void pad_write(void) {
     slice *buffer = &given.slices[1];
-    vs_written w = vs_pad_write(FIRST, buffer->bytes, buffer->length);
-    printf("%u\t%llu\t", w.number, (unsigned long long)w.count);
-    put_hex(buffer->bytes, buffer->length);
+    put_written(vs_pad_write(FIRST, buffer->bytes, buffer->length), buffer);
 }
 
 static void block_number(void) { printf("%u", vs_block_number(FIRST, SECOND, given.number)); }
@@ -279,6 +282,11 @@ static void ask(void) { put_answer(vs_ask(given.session, given.number)); }
 
 static void ask_in_place(void) { put_answer(vs_ask_in_place(&given.session, given.number)); }
 
+static void sheet_write(void) {
+    slice *buffer = &given.slices[0];
+    put_written(vs_sheet_write(&given.session, buffer->bytes, buffer->length), buffer);
+}
+
 /* Each call with its arguments in order, a letter for each: h a hash state, s a session, n a number, l a slice that is only read (`@N` too), w a
  * slice that is written. */
 static const struct {
@@ -304,6 +312,7 @@ static const struct {
     {"deliver_in_place", "snl", deliver_in_place},
     {"ask", "sn", ask},
     {"ask_in_place", "sn", ask_in_place},
+    {"sheet_write", "sw", sheet_write},
 };
 
 /* ---- Lines ---- */
