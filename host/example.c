@@ -1,9 +1,11 @@
 /* A C host: loads the rank in the folder that it is given (or in the one that it is run in) and prints a line for each of its notes.
- * This is what firmware does, with files in place of a card. */
+ * This is what firmware does, with files in place of a card. example [FOLDER [--sheet]]: with --sheet it loads the rank all the same, and
+ * prints the sheet that the library writes of the session then: rank.txt again, whatever became of the notes. */
 #include "plain_c.h"
 #include "veenstipper.h"
 
 enum { PIECE = 4096 };
+_Static_assert(PIECE >= VS_LONGEST_SHEET, "a piece's place takes a sheet as well");
 
 static vs_session session; /* 5 KB: not on the stack */
 static uint8_t piece[PIECE];
@@ -23,8 +25,23 @@ static void load_note(unsigned note) {
     fclose(f);
 }
 
+/* The exit status: where there is no sheet to write, nothing is printed that could be taken for one. */
+static int print_sheet(void) {
+    vs_written sheet = vs_sheet_write(&session, piece, VS_LONGEST_SHEET);
+    if (sheet.number != VS_ACCEPTED) {
+        fprintf(stderr, "example: the sheet is not written: refusal %u\n", sheet.number);
+        return 1;
+    }
+    return fwrite(piece, 1, sheet.count, stdout) == sheet.count && fflush(stdout) == 0 ? 0 : 1;
+}
+
 int main(int argc, char **argv) {
     static const char *const words[] = {"none", "waiting", "open", "shut"};
+    bool to_write = argc == 3 && strcmp(argv[2], "--sheet") == 0;
+    if (argc > 2 && !to_write) {
+        fputs("example [FOLDER [--sheet]]\n", stderr);
+        return 1;
+    }
     if (argc > 1 && chdir(argv[1]) != 0) {
         fputs("example: no such folder\n", stderr);
         return 1;
@@ -34,7 +51,7 @@ int main(int argc, char **argv) {
     if (f)
         fclose(f);
     vs_verdict sheet = vs_sheet_read_in_place(&session, piece, n);
-    if (sheet.number != VS_ACCEPTED) {
+    if (sheet.number != VS_ACCEPTED && !to_write) {
         printf("refused\t%u\t%u\n", sheet.number, sheet.line);
         return 0;
     }
@@ -43,7 +60,8 @@ int main(int argc, char **argv) {
             continue;
         load_note(note);
         vs_answer a = vs_ask_in_place(&session, note);
-        printf("%u\t%s\t%llu\n", note, words[a.status], (unsigned long long)a.taken);
+        if (!to_write)
+            printf("%u\t%s\t%llu\n", note, words[a.status], (unsigned long long)a.taken);
     }
-    return 0;
+    return to_write ? print_sheet() : 0;
 }

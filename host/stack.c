@@ -24,6 +24,7 @@
 #define vs_remove_part at_vs_remove_part
 #define vs_sheet_read at_vs_sheet_read
 #define vs_sheet_read_in_place at_vs_sheet_read_in_place
+#define vs_sheet_write at_vs_sheet_write
 #define vs_update at_vs_update
 #define vs_update_in_place at_vs_update_in_place
 #include "plain_c.h"
@@ -67,7 +68,7 @@ __asm__("run:\n   mov %rsp, kept_rsp(%rip)\n   lea stack_low+65536(%rip), %rsp\n
 
 #define EACH(X)                                                                                                                                      \
     X(ask) X(ask_in_place) X(block_number) X(block_part) X(compare_message) X(compare_state) X(deliver) X(deliver_in_place) X(digest_of) X(finish)   \
-    X(fold) X(fresh) X(pad_write) X(remove_number) X(remove_part) X(sheet_read) X(sheet_read_in_place) X(update) X(update_in_place)
+    X(fold) X(fresh) X(pad_write) X(remove_number) X(remove_part) X(sheet_read) X(sheet_read_in_place) X(sheet_write) X(update) X(update_in_place)
 #define DOOR_OF(name) DOOR(vs_##name);
 EACH(DOOR_OF)
 
@@ -77,7 +78,8 @@ enum { LENGTH = 200 }; /* bytes of each note */
 
 static uint8_t message[1000], buffer[2 * VS_BLOCK], whole[2048], digest[VS_DIGEST];
 static char text[4096];
-static size_t text_length, message_length, whole_length, block, buffer_length = sizeof buffer, digest_length = VS_DIGEST;
+static uint8_t sheet[VS_LONGEST_SHEET];
+static size_t text_length, message_length, whole_length, block, buffer_length = sizeof buffer, digest_length = VS_DIGEST, sheet_length = sizeof sheet;
 static vs_session session;
 static vs_hash state;
 static uint64_t note;
@@ -100,6 +102,7 @@ static void remove_number(void) { number = vs_remove_number(whole, whole_length)
 static void remove_part(void) { number = vs_remove_part(whole, whole_length) == 0; }
 static void sheet_read(void) { vs_sheet s = vs_sheet_read((const uint8_t *)text, text_length); number = first(&s); }
 static void sheet_read_in_place(void) { __auto_type v = vs_sheet_read_in_place(&session, (const uint8_t *)text, text_length); number = first(&v); }
+static void sheet_write(void) { vs_written w = vs_sheet_write(&session, sheet, sheet_length); number = first(&w); }
 static void deliver(void) { vs_delivered d = vs_deliver(session, note, message, message_length); number = first(&d); }
 static void deliver_in_place(void) { vs_answer a = vs_deliver_in_place(&session, note, message, message_length); number = first(&a); }
 static void ask(void) { vs_answer a = vs_ask(session, note); number = first(&a); }
@@ -210,6 +213,33 @@ static void on_sheets(void) {
     }
 }
 
+/* A sheet written of the session as it stands: into a buffer that always does, and into shorter ones. */
+static void on_writing(void) {
+    static const size_t lengths[] = {0, 1, 100, VS_LONGEST_SHEET};
+    for (size_t i = 0; i < sizeof lengths / sizeof *lengths; i++) {
+        sheet_length = lengths[i];
+        try(sheet_write);
+    }
+}
+
+/* Sessions with no note, and with more and more of them, each number with one digit and with all that it may have; and a last slot that is not in order. */
+static void on_sheets_to_write(void) {
+    memset(&session, 0, sizeof session);
+    on_writing();
+    for (int n = 0; n < VS_NOTES; n++) {
+        vs_slot *slot = &session.slots[n];
+        slot->sample.length = n % 2 ? 2 : 4294967294;
+        slot->sample.loop_start = n % 2 ? 0 : 2147483646;
+        slot->sample.loop_end = n % 2 ? 1 : 2147483647;
+        measure(fresh);
+        slot->state = state;
+        slot->status = VS_WAITING;
+        on_writing();
+    }
+    session.slots[VS_NOTES - 1].sample.length = 3;
+    on_writing();
+}
+
 static void on_sessions(void) {
     for (int kind = 0; kind < 5; kind++) { /* waiting; with some bytes; decided; a state that is not in order; a status that is none */
         size_t length = message_length;
@@ -223,6 +253,7 @@ static void on_sessions(void) {
         message_length = length;
         for (note = 0; note <= VS_NOTES + 1; note += note == 1 ? VS_NOTES - 1 : 1)
             try(deliver), try(deliver_in_place), try(ask), try(ask_in_place);
+        try(sheet_write);
     }
 }
 
@@ -232,6 +263,7 @@ int main(void) {
         message[i] = (uint8_t)(i * 7 + i / 251);
     write_sheet();
     on_sheets();
+    on_sheets_to_write();
     on_refusals();
     for (size_t i = 0; i < sizeof lengths / sizeof *lengths; i++) {
         message_length = lengths[i];

@@ -24,7 +24,13 @@
  * session of all zero bytes lists no note. A stored state is in order when total is at most 2^61 - 1 and the tail bytes behind the first
  * total % 64 are zero; a stored slot is in order when its length is even, 2 to 4294967294, its loop obeys loop_start < loop_end <= length / 2,
  * and its state is in order with total below length (waiting) or the fresh one (open, shut). What is not in order is refused (6, 9), never used.
- * What is in order is believed, an open slot too: what a status says holds of sessions that only these functions wrote.
+ * What is in order is believed, an open slot too: what a status says holds of sessions that only these functions wrote. A slot is listed
+ * unless its status is VS_NONE, whatever else it holds; a status above VS_SHUT is listed, and not in order.
+ *
+ * A host that has samples and no sheet fills the slots itself, in a session of zeros: a record (its digest by vs_digest_of, or piece
+ * by piece by vs_update_in_place and vs_finish), the state that vs_fresh gives, VS_WAITING.
+ * vs_ask_in_place then says of each whether it is in order, and vs_sheet_write makes the sheet. A record is believed there too: the sheet has
+ * the length and the digest that it holds, whatever bytes were or were not delivered.
  */
 #ifndef VEENSTIPPER_H
 #define VEENSTIPPER_H
@@ -45,7 +51,8 @@ extern "C" {
 #define VS_COUNT_OR_NOTE 2
 #define VS_BAD_LENGTH 3
 #define VS_BAD_LOOP 4
-/* Note 0, above 32, or unlisted; its slot not in order. Status 0, taken 0; session same. */
+/* Note 0, above 32, or unlisted; its slot not in order (where a sheet is written: any listed note's). Status 0, taken 0, count 0; session and
+ * buffer same. */
 #define VS_UNLISTED 5
 #define VS_SLOT_NOT_IN_ORDER 6
 /* A delivery to a decided note, an empty piece too. Status and taken as they stood; session same. */
@@ -64,6 +71,9 @@ extern "C" {
 #define VS_OTHER_TAIL 13
 /* Not a padded message. Empty part. */
 #define VS_NOT_PADDED 14
+/* Writing a sheet: no note listed; buffer shorter than the sheet. Buffer same; count 0. */
+#define VS_NONE_LISTED 15
+#define VS_SHORT_BUFFER 16
 
 /* ---- Statuses of a note ----------------------------------------------------------------------------------------------------------- */
 
@@ -75,6 +85,7 @@ extern "C" {
 #define VS_NOTES 32
 #define VS_BLOCK 64
 #define VS_DIGEST 32
+#define VS_LONGEST_SHEET 3233 /* bytes: 32 notes, every number with all its digits */
 
 /* ---- Values ----------------------------------------------------------------------------------------------------------------------- */
 
@@ -227,6 +238,12 @@ vs_sheet vs_sheet_read(const uint8_t *text, size_t text_length);
 
 /* The same into a lent session, whatever it held: under 1 KB of stack where the call by value takes over 5 KB. */
 vs_verdict vs_sheet_read_in_place(vs_session *session, const uint8_t *text, size_t text_length);
+
+/* Writes the sheet of the session's listed notes to the front of the buffer, whatever their status; count says how many bytes that are. Later
+ * bytes of the buffer keep their content, and the session is only read. Read again, the sheet lists the same records, every note waiting; of a
+ * session that was read from a sheet it is that sheet, byte for byte, whatever was delivered since. Refusals 6 (of any listed
+ * slot), 15, 16, in this order: count 0, buffer untouched. A buffer of VS_LONGEST_SHEET bytes always does. */
+vs_written vs_sheet_write(const vs_session *session, uint8_t *buffer, size_t buffer_length);
 
 /* A piece of a note's bytes. Refusals 5, 6, 7, 8: the session as it was. A note is open (VS_OPEN) from the moment its last byte is in and
  * the digest fits, shut (VS_SHUT) if it does not fit, and stays so. */
