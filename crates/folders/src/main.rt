@@ -8,7 +8,7 @@ fn case(name: &[u8], folder: &[u8]) {
     loader::run(folder);
 }
 
-// The cases, in the order of the stored output; in four functions, because a check grows faster than the calls in one.
+// The cases, in the order of the stored output; in five functions, because a check grows faster than the calls in one.
 fn loaded() {
     case(b"open", b"open/");
     case(b"exactly-4096", b"exactly-4096/");
@@ -47,8 +47,21 @@ fn against_a_rule() {
     case(b"note-33", b"note-33/");
     case(b"length-odd", b"length-odd/");
     case(b"length-0", b"length-0/");
-    case(b"loop-past-the-sample", b"loop-past-the-sample/");
-    case(b"loop-of-no-frame", b"loop-of-no-frame/");
+}
+
+// Rule 4 on both sides: a sheet of loops that end at the last frame, and sheets whose first note has such a loop and whose second does not.
+fn loops() {
+    case(b"loops-to-the-last-frame", b"loops-to-the-last-frame/");
+    case(b"loop-past-2-bytes", b"loop-past-2-bytes/");
+    case(b"loop-past-4-bytes", b"loop-past-4-bytes/");
+    case(b"loop-past-64-bytes", b"loop-past-64-bytes/");
+    case(
+        b"loop-past-4294967294-bytes",
+        b"loop-past-4294967294-bytes/",
+    );
+    case(b"loop-behind-the-sample", b"loop-behind-the-sample/");
+    case(b"loop-backwards", b"loop-backwards/");
+    case(b"loop-end-that-wraps", b"loop-end-that-wraps/");
 }
 
 fn main() {
@@ -56,4 +69,5 @@ fn main() {
     with_bytes_missing();
     ill_formed();
     against_a_rule();
+    loops();
 }

@@ -10,7 +10,8 @@ use Rattle.word.specs.Rotation.{_⊞_, _<<<_}
 use Rattle.word.specs.BigEndian.{bigEndian, numberFrom, numberOf}
 use Rattle.standard.specs.Standard.{T, FF, GG, P0, P1, split, nextWord, extended, expansion, W′, roundOn, round, rounds}
 use Rattle.padding.specs.Padding.{zeros, padding, padded, blockCount}
-use Rattle.rules.specs.Rules.{loopRule}
+use Rattle.rules.specs.Rules.{isNote, noteRule, lengthRule, loopRule}
+use Rattle.sheet.specs.Judging.{entryNumber}
 use Rattle.promises.specs.Examples.{Example, abc, abcRound0, loopNumber, examples, Hold}
 
 -- whether every number found is the one printed
@@ -24,5 +25,5 @@ hold [] h = tt
 hold (e ∷ es) h = (eqb-true _ _ (first (eqb (e .found) (e .printed)) (agree es) h), hold es (second (eqb (e .found) (e .printed)) (agree es) h))
 
 pub examples-hold : Hold examples
-unfolding agree _⊞_ _<<<_ bigEndian numberFrom numberOf T FF GG P0 P1 split nextWord extended expansion W′ roundOn round rounds zeros padding padded blockCount loopRule abc abcRound0 loopNumber
+unfolding agree _⊞_ _<<<_ bigEndian numberFrom numberOf T FF GG P0 P1 split nextWord extended expansion W′ roundOn round rounds zeros padding padded blockCount noteRule isNote lengthRule loopRule entryNumber abc abcRound0 loopNumber
 examples-hold = hold examples refl

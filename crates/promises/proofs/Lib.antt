@@ -6,4 +6,5 @@ pub mod Reached
 pub mod Accepted
 pub mod Unlisted
 pub mod Demand3
+pub mod Loops
 pub mod Proved

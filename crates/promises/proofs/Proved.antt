@@ -3,6 +3,7 @@ use Rattle.promises.specs.Promises.{Promises}
 use Rattle.promises.proofs.Examples.{examples-hold}
 use Rattle.promises.proofs.Demand3.{demand3}
 use Rattle.promises.proofs.Reordering.{reordering}
+use Rattle.promises.proofs.Loops.{loops}
 
 pub proved : Promises
-proved = record { small-examples = examples-hold; demand3 = demand3; reordering = reordering }
+proved = record { small-examples = examples-hold; demand3 = demand3; reordering = reordering; loops = loops }

@@ -1,17 +1,17 @@
--- "Small examples": those that document 01 marks P, one list under a single theorem (proofs/Examples.antt).
+-- "Small examples": those that document 01 marks P, its loop cases as 2/13 replaced them, one list under a single theorem
+-- (proofs/Examples.antt).
 use Prim.{Unit}
 use Prim.Native.Nat.{ℕ}
 use mathlib.Core.Path.{_≡_}
 use mathlib.Core.List.{List, [], _∷_}
-use mathlib.Core.Bool.{cond}
-use lib.ListN.{getD}
+use lib.ListN.{getD, replicate}
 use Rattle.refusal.specs.Table.{accepted, badLoop}
 use Rattle.standard.specs.declared.Words.{Words}
 use Rattle.standard.specs.Standard.{IV, P0, P1, expansion, W′, rounds}
 use Rattle.padding.specs.Padding.{padded, blockCount}
-use Rattle.rules.specs.Rules.{loopRule}
+use Rattle.sheet.specs.Judging.{entryNumber}
 
--- what the definitions give, and what document 01 prints
+-- what the definitions give, and what the documents print
 pub record Example : Type 0 where
   pub found : ℕ
   pub printed : ℕ
@@ -28,9 +28,11 @@ abc = expansion (padded (0x61 ∷ 0x62 ∷ 0x63 ∷ []))
 unfoldable pub abcRound0 : Words
 abcRound0 = rounds 1 IV abc
 
--- a loop "with 32 frames", which are 64 bytes: its number, 0 where it is accepted
-unfoldable pub loopNumber : ℕ → ℕ → ℕ
-loopNumber start end = cond (loopRule 64 start end) accepted badLoop
+-- a sheet's line with a loop "with 32 frames", which are 64 bytes: its number, 0 where it is accepted
+unfoldable pub loopNumber : (start end : ℕ) → ℕ
+loopNumber start end =
+    entryNumber 0
+    (record { note = 1; sample = record { length = 64; «loop_start» = start; «loop_end» = end; digest = replicate 32 0 } })
 
 abbrev pub examples : List Example
 examples =
@@ -47,9 +49,10 @@ examples =
     ∷ blockCount 55 is 1
     ∷ blockCount 56 is 2
     ∷ blockCount 64 is 2
-    -- "with 32 frames, loop 0..32 is accepted, 0..33 and 32..32 refused"
-    ∷ loopNumber 0 32 is accepted
-    ∷ loopNumber 0 33 is badLoop
+    -- 2/13: "With 32 frames, 0..31 and 31..31 are accepted, 0..32 and 32..32 refused"
+    ∷ loopNumber 0 31 is accepted
+    ∷ loopNumber 31 31 is accepted
+    ∷ loopNumber 0 32 is badLoop
     ∷ loopNumber 32 32 is badLoop
     ∷ []
 

@@ -2,4 +2,5 @@ pub mod Examples
 pub mod Sequences
 pub mod Demand3
 pub mod Reordering
+pub mod Loops
 pub mod Promises

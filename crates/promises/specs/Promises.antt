@@ -2,6 +2,7 @@
 use Rattle.promises.specs.Examples.{Hold, examples}
 use Rattle.promises.specs.Demand3.{Demand3}
 use Rattle.promises.specs.Reordering.{Reordering}
+use Rattle.promises.specs.Loops.{Loops}
 
 pub record Promises : Type 0 where
   -- "Marked P are proved about the definitions, gathered in one list under a single theorem"
@@ -10,3 +11,5 @@ pub record Promises : Type 0 where
   pub demand3 : Demand3
   -- its last sentence
   pub reordering : Reordering
+  -- 2/13: no loop leaves its sample
+  pub loops : Loops

@@ -26,7 +26,9 @@ use Rattle.sheet.specs.Judging.{sheetOf}
 use Rattle.sheet_promises.specs.Grammar.{Pairs, no-pair, pair, IsDigest, IsField, IsHeader, IsLine, line, no-line, entry, no-entry, IsSheet}
 use Rattle.sheet_promises.specs.Promises.{Among, first, further, Lists, freshlyWaiting}
 use Rattle.sheet_promises.proofs.Proved.{proved as sheet}
-use Rattle.rejected.specs.Example.{header, lineOf5, lineOf9, text, note5, note9, notes}
+use Rattle.sheet_promises.specs.Faults.{here, breaks, loop}
+use Rattle.sheet_promises.specs.Faults as faults
+use Rattle.rejected.specs.Example.{zerosAndEnd, header, lineOf5, lineOf9, text, printedLineOf5, printedLineOf9, printedText, note5, note9, notes}
 
 -- a number of one figure and of two, with the byte behind it
 one-figure : (d ending : ℕ) → d < 10 → IsField ((0x30 + d) ∷ ending ∷ []) d ending
@@ -58,18 +60,21 @@ zero-digest = (zero-bytes 32, refl)
 is-header : IsHeader header 2
 is-header = record { field = 0x32 ∷ 10 ∷ []; is-count = one-figure 2 10 (omega arith); whole = refl }
 
-is-line5 : IsLine lineOf5 note5
-is-line5 =
+-- note 5, with a loop from 0 to thirty-and-some
+line5-to : (ones : ℕ) → ones < 10
+    → IsLine (0x35 ∷ 9 ∷ 0x36 ∷ 0x34 ∷ 9 ∷ 0x30 ∷ 9 ∷ 0x33 ∷ (0x30 + ones) ∷ 9 ∷ zerosAndEnd)
+    (record { note = 5; sample = record { length = 64; «loop_start» = 0; «loop_end» = 3 * 10 + ones; digest = replicate 32 0 } })
+line5-to ones small =
     record {
       note = 0x35 ∷ 9 ∷ [];
       size = 0x36 ∷ 0x34 ∷ 9 ∷ [];
       start = 0x30 ∷ 9 ∷ [];
-      end = 0x33 ∷ 0x32 ∷ 9 ∷ [];
+      end = 0x33 ∷ (0x30 + ones) ∷ 9 ∷ [];
       digest = replicate 64 0x30;
       is-note = one-figure 5 9 (omega arith);
       is-length = two-figures 6 4 9 (omega arith) (omega arith) (omega arith);
       is-start = one-figure 0 9 (omega arith);
-      is-end = two-figures 3 2 9 (omega arith) (omega arith) (omega arith);
+      is-end = two-figures 3 ones 9 (omega arith) (omega arith) small;
       is-digest = zero-digest;
       whole = refl;
     }
@@ -80,12 +85,12 @@ is-line9 =
       note = 0x39 ∷ 9 ∷ [];
       size = 0x36 ∷ 9 ∷ [];
       start = 0x30 ∷ 9 ∷ [];
-      end = 0x33 ∷ 9 ∷ [];
+      end = 0x32 ∷ 9 ∷ [];
       digest = replicate 64 0x30;
       is-note = one-figure 9 9 (omega arith);
       is-length = one-figure 6 9 (omega arith);
       is-start = one-figure 0 9 (omega arith);
-      is-end = one-figure 3 9 (omega arith);
+      is-end = one-figure 2 9 (omega arith);
       is-digest = zero-digest;
       whole = refl;
     }
@@ -98,12 +103,20 @@ is-sheet =
       lines = lineOf5 ++ (lineOf9 ++ []);
       is-header = is-header;
       count-rule = refl;
-      are-lines = line is-line5 (line is-line9 no-line);
+      are-lines = line (line5-to 1 (omega arith)) (line is-line9 no-line);
       obeyed =
           entry (record { note-rule = refl; length-rule = refl; loop-rule = refl })
           (entry (record { note-rule = refl; length-rule = refl; loop-rule = refl }) no-entry);
       whole = refl;
     }
+
+-- as 01 prints it, its first note breaks rule 4
+pub printed-refused : sheetOf printedText .verdict ≡ record { number = 4; line = 2 }
+unfolding countRule noteRule isNote lengthRule loopRule
+printed-refused =
+    sheet .refuses printedText 4 2 .1
+    (faults.notes header (printedLineOf5 ++ printedLineOf9) 2 is-header refl refl
+    (here (breaks printedLineOf5 printedLineOf9 _ (line5-to 2 (omega arith)) refl (loop refl refl refl)))) .0
 
 pub lists : Lists (sheetOf text .session) notes
 lists = sheet .lists text notes is-sheet
@@ -131,10 +144,10 @@ module _ (e : Entry) (among : Among e notes) (low : 1 ≤ e .note) (high : e .no
   asked = sym (session .ask-table (sheetOf text .session) (e .note) _ .1 (ask-waiting waits)) ∙ rw nothing-yet
 
 pub obeys5 : Obeyed (note5 .sample)
-obeys5 = record { even = refl; at-least = omega arith; at-most = omega arith; rises = omega arith; within = omega arith }
+obeys5 = record { even = refl; at-least = omega arith; at-most = omega arith; forward = omega arith; within = omega arith }
 
 pub obeys9 : Obeyed (note9 .sample)
-obeys9 = record { even = refl; at-least = omega arith; at-most = omega arith; rises = omega arith; within = omega arith }
+obeys9 = record { even = refl; at-least = omega arith; at-most = omega arith; forward = omega arith; within = omega arith }
 
 pub waits5 : Waits (sheetOf text .session) 5
 waits5 = waits note5 first (omega arith) (omega arith) obeys5

@@ -1,3 +1,4 @@
 pub mod Example
 pub mod Digests
+pub mod Loops
 pub mod Proved

@@ -25,8 +25,9 @@ use Rattle.sheet_promises.proofs.Proved.{proved as sheet}
 use Rattle.rejected.specs.Example.{text, note5, note9, notes}
 use Rattle.rejected.specs.Wrong.{RefusesSheets, RefusesPieces, AlwaysShut, invents}
 use Rattle.rejected.specs.Promises.{Promises}
-use Rattle.rejected.proofs.Example.{is-sheet, lists, fresh-in-order, nothing-yet, asked, obeys5, obeys9, waits5}
+use Rattle.rejected.proofs.Example.{is-sheet, printed-refused, lists, fresh-in-order, nothing-yet, asked, obeys5, obeys9, waits5}
 use Rattle.rejected.proofs.Digests.{no-constant, no-idle, no-first-only}
+use Rattle.rejected.proofs.Loops.{old-beyond, no-other, lowered-is}
 
 no-sheets : (reading : List ℕ → Sheet) → RefusesSheets reading → AcceptsOf reading → ⊥
 no-sheets reading never accepts = never text (accepts text .1 (notes, is-sheet))
@@ -53,11 +54,11 @@ abbrev two : List ℕ
 two = 0 ∷ 0 ∷ []
 
 fitting : Record
-fitting = record { length = 2; «loop_start» = 0; «loop_end» = 1; digest = finish (update fresh two .state) .bytes }
+fitting = record { length = 2; «loop_start» = 0; «loop_end» = 0; digest = finish (update fresh two .state) .bytes }
 
 fitting-obeys : Obeyed fitting
 unfolding fitting
-fitting-obeys = record { even = refl; at-least = omega arith; at-most = omega arith; rises = omega arith; within = omega arith }
+fitting-obeys = record { even = refl; at-least = omega arith; at-most = omega arith; forward = omega arith; within = omega arith }
 
 never-shut : (putting : Slot → List ℕ → Slot) → AlwaysShut putting → OutcomeOf putting → ⊥
 unfolding fitting fresh
@@ -87,6 +88,9 @@ proved =
       lists = lists;
       waits-5 = asked note5 first (omega arith) (omega arith) obeys5;
       waits-9 = asked note9 (further first) (omega arith) (omega arith) obeys9;
+      ends-5 = ap (λ (x : Slot). x .sample .«loop_end») (lists .listed note5 first);
+      ends-9 = ap (λ (x : Slot). x .sample .«loop_end») (lists .listed note9 (further first));
+      printed-refused = printed-refused;
       sheets = no-sheets;
       pieces = no-pieces;
       digest = no-constant;
@@ -94,4 +98,7 @@ proved =
       nothing = no-idle;
       first-only = no-first-only;
       count = no-invented;
+      old-loops = old-beyond;
+      other-loops = no-other;
+      lowered = lowered-is;
     }

@@ -1,13 +1,18 @@
--- "These must be rejected" (document 01, "How tight the promises are"): each wrong program breaks the promise that 01 names for it.
-use Prim.Native.Nat.{ℕ, _≤_}
+-- "These must be rejected" (document 01, "How tight the promises are"): each wrong program breaks the promise that 01 names for it. And
+-- 2/13: any other rule for loops allows one that plays a frame outside its sample, or no frame, or refuses one that keeps inside.
+use Prim.Native.Nat.{ℕ, _+_, _/_, _≤_, _<_}
 use mathlib.Core.Path.{_≡_}
 use mathlib.Core.List.{List}
+use mathlib.Core.Bool.{Bool, true}
+use Rattle.rules.specs.Rules.{loopRule}
+use Rattle.rules.specs.Promises.{FrameInside, PlaysOf}
 use Rattle.hash.specs.Promises.{AnyCuttingOf}
 use Rattle.hash.specs.declared.Hash.{Hash}
 use Rattle.hash.specs.declared.Updated.{Updated}
 use Rattle.hash.specs.declared.Digest.{Digest}
 use Rattle.slots.specs.Promises.{OutcomeOf}
 use Rattle.slots.specs.declared.Slot.{Slot}
+use Rattle.session.specs.Sessions.{slotOf}
 use Rattle.session.specs.Operations.{ask}
 use Rattle.session.specs.Promises.{TakesOf, CountedOf}
 use Rattle.session.specs.declared.Session.{Session}
@@ -16,16 +21,21 @@ use Rattle.sheet.specs.Judging.{sheetOf}
 use Rattle.sheet.specs.declared.Sheet.{Sheet}
 use Rattle.sheet_promises.specs.Grammar.{IsSheet}
 use Rattle.sheet_promises.specs.Promises.{AcceptsOf, Lists}
-use Rattle.rejected.specs.Example.{text, notes}
+use Rattle.rejected.specs.Example.{text, printedText, notes}
 use Rattle.rejected.specs.Wrong.{RefusesSheets, RefusesPieces, constant, AlwaysShut, doesNothing, firstPieceOnly, invents}
+use Rattle.rejected.specs.Wrong.{oldLoopRule}
 
 pub record Promises : Type 0 where
-  -- document 01's three-line sheet is a sheet, is accepted, and lists 5 and 9
+  -- the three-line sheet of document 01, with 2/13's loops, is a sheet, is accepted, and lists 5 and 9
   pub is-sheet : IsSheet text notes
   pub is-accepted : sheetOf text .verdict ≡ record { number = 0; line = 0 }
   pub lists : Lists (sheetOf text .session) notes
   pub waits-5 : ask (sheetOf text .session) 5 ≡ record { number = 0; status = 1; taken = 0 }
   pub waits-9 : ask (sheetOf text .session) 9 ≡ record { number = 0; status = 1; taken = 0 }
+  -- "ends its loops at 31 and 2"; as 01 prints it, with 32 and 3, it is refused: 4, line 2
+  pub ends-5 : slotOf (sheetOf text .session) 5 .sample .«loop_end» ≡ 31
+  pub ends-9 : slotOf (sheetOf text .session) 9 .sample .«loop_end» ≡ 2
+  pub printed-refused : sheetOf printedText .verdict ≡ record { number = 4; line = 2 }
   -- "a loader that refuses everything (the table's "exactly when", demand 2)"
   pub sheets : (reading : List ℕ → Sheet) → RefusesSheets reading → AcceptsOf reading → ⊥
   pub pieces : (delivering : Session → (note : ℕ) (piece : List ℕ) → Delivered) → RefusesPieces delivering → TakesOf delivering → ⊥
@@ -37,3 +47,13 @@ pub record Promises : Type 0 where
   pub first-only : (finishing : Hash → Digest) → AnyCuttingOf firstPieceOnly finishing → ⊥
   -- "a taken count that is invented (demand 3: it is the length of the accepted bytes)": wrong for some number of note 5's 64 bytes
   pub count : (counting : ℕ → ℕ) (bytes : ℕ) → bytes ≤ 64 → (counting bytes ≡ bytes → ⊥) → CountedOf (invents counting) → ⊥
+  -- 2/13: "A loop ending at the frame count was accepted and read one frame beyond the sample"
+  pub old-loops :
+      (bytes start : ℕ) → start < bytes / 2
+      → (oldLoopRule bytes start (bytes / 2) ≡ true) × (FrameInside (bytes / 2) bytes → ⊥)
+  -- any rule that anywhere differs from "start <= end < length/2"
+  pub other-loops :
+      (rule : (bytes start end : ℕ) → Bool) (bytes start end : ℕ) → (rule bytes start end ≡ loopRule bytes start end → ⊥)
+      → PlaysOf rule → ⊥
+  -- an old loop, its end lowered by one to its last frame, is allowed exactly where it was
+  pub lowered : (bytes start last : ℕ) → loopRule bytes start last ≡ oldLoopRule bytes start (last + 1)

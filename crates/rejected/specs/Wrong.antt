@@ -1,9 +1,9 @@
--- The programs that document 01 names under "These must be rejected", as definitions.
-use Prim.Native.Nat.{ℕ, _+_}
+-- The programs that document 01 names under "These must be rejected", and the rule for loops that 2/13 took away, as definitions.
+use Prim.Native.Nat.{ℕ, _+_, _/_}
 use mathlib.Core.Path.{_≡_}
 use mathlib.Core.List.{List}
-use mathlib.Core.Bool.{true, cond}
-use lib.Dec.{eqb}
+use mathlib.Core.Bool.{Bool, true, cond, _&&_}
+use lib.Dec.{leb, ltb, eqb}
 use lib.ListN.{length}
 use Rattle.refusal.specs.Table.{accepted}
 use Rattle.hash.specs.Update.{update}
@@ -50,3 +50,7 @@ invents counting s note piece =
     let d = deliver s note piece in
     let answer : Answer = record { number = d .answer .number; status = d .answer .status; taken = counting (d .answer .taken) } in
     record { answer = answer; session = d .session }
+
+-- "Document 01 treats it as the frame after": start < end <= length/2
+unfoldable pub oldLoopRule : (bytes start end : ℕ) → Bool
+oldLoopRule bytes start end = ltb start end && leb end (bytes / 2)

@@ -11,7 +11,7 @@ use Rattle.units.specs.Units.{framesOf}
 use Rattle.units.specs.declared.InFrames.{InFrames}
 use Rattle.units.proofs.Exact.{frames-are}
 use Rattle.rules.specs.Rules.{countRule, isNote, noteRule, lengthRule, loopRule, obeys}
-use Rattle.rules.specs.Promises.{Obeyed}
+use Rattle.rules.specs.Promises.{Obeyed, PlaysOf}
 use Rattle.rules.specs.declared.Record.{Record}
 
 -- the frames of the even part of a length: half of it
@@ -47,14 +47,24 @@ unfolding lengthRule
 length-rule-is bytes =
     three-are (both-is (eqb (bytes % 2) 0 && leb 2 bytes) (leb bytes 4294967294) (both-is _ _ (eqb-true _ 0, eq-eqb _ 0) (leb-true 2 bytes, le-leb 2 bytes)) (leb-true bytes _, le-leb bytes _))
 
-pub loop-rule-is : (bytes start end : ℕ) → (loopRule bytes start end ≡ true) ↔ ((start < end) × (end ≤ bytes / 2))
+pub loop-rule-is : (bytes start end : ℕ) → (loopRule bytes start end ≡ true) ↔ ((start ≤ end) × (end < bytes / 2))
 unfolding loopRule
-loop-rule-is bytes start end = both-is _ _ (ltb-true start end, lt-ltb start end) (leb-true end _, le-leb end _)
+loop-rule-is bytes start end = both-is _ _ (leb-true start end, le-leb start end) (ltb-true end _, lt-ltb end _)
+
+-- a loop's last frame lies inside the sample exactly when all of its frames do
+pub loop-plays-inside : PlaysOf loopRule
+loop-plays-inside bytes start end =
+    let rule = loop-rule-is bytes start end in (
+      λ h.
+          let (forward, within) = rule .0 h in
+          record { some = forward; inside = λ frame from to. record { first = omega arith; second = omega arith } },
+      λ p. let last = p .inside end (p .some) (omega arith) .second in rule .1 (p .some, omega arith),
+    )
 
 pub obeys-is : (r : Record) → (obeys r ≡ true) ↔ Obeyed r
 unfolding obeys
 obeys-is r =
     let rules = both-is _ _ (length-rule-is (r .length)) (loop-rule-is (r .length) (r .«loop_start») (r .«loop_end»)) in (
-      λ h. let (size, loop) = rules .0 h in record { even = size .0; at-least = size .1; at-most = size .2; rises = loop .0; within = loop .1 },
-      λ o. rules .1 ((o .even, o .at-least, o .at-most), (o .rises, o .within)),
+      λ h. let (size, loop) = rules .0 h in record { even = size .0; at-least = size .1; at-most = size .2; forward = loop .0; within = loop .1 },
+      λ o. rules .1 ((o .even, o .at-least, o .at-most), (o .forward, o .within)),
     )

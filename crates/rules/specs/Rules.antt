@@ -1,4 +1,5 @@
--- Rules 2 to 4: document 01, "The rank sheet". A line is judged by all of them; a slot in order "obeys rules 3 and 4".
+-- Rules 2 to 4: document 01, "The rank sheet", rule 4 as 2/13 changed it. A line is judged by all of them; a slot in order "obeys rules 3
+-- and 4".
 use Prim.Native.Nat.{ℕ, _/_, _%_}
 use mathlib.Core.Bool.{Bool, _&&_}
 use lib.Dec.{leb, ltb, eqb}
@@ -21,9 +22,9 @@ noteRule last note = isNote note && ltb last note
 unfoldable pub lengthRule : (bytes : ℕ) → Bool
 lengthRule bytes = eqb (bytes % 2) 0 && leb 2 bytes && leb bytes 4294967294
 
--- "The loop obeys start < end <= length/2": frames, and one frame is two bytes
+-- 2/13: "The rule becomes start <= end < length/2": frames, and one frame is two bytes. The end is the last frame that sounds
 unfoldable pub loopRule : (bytes start end : ℕ) → Bool
-loopRule bytes start end = ltb start end && leb end (bytes / 2)
+loopRule bytes start end = leb start end && ltb end (bytes / 2)
 
 -- a record's length obeys rule 3, its loop rule 4, and it "obeys rules 3 and 4"
 abbrev pub goodLength : Record → Bool

@@ -50,13 +50,14 @@ pub fn length_rule(length: Bytes) -> bool
     bytes % 2 == 0 && (SHORTEST_SAMPLE <= bytes && bytes <= LONGEST_SAMPLE)
 }
 
-// Rule 4, on a sample's length and its loop: here bytes and frames meet. A byte that is no whole frame is left out: rule 3 refuses it.
+// Rule 4, on a sample's length and its loop: here bytes and frames meet. The end is the last frame that sounds, so it lies below the
+// number of frames. A byte that is no whole frame is left out: rule 3 refuses it.
 pub fn loop_rule(length: Bytes, start: Frames, end: Frames) -> bool
     ensures { λ r. ⌜ r ≡ loopRule (length .0) (start .0) (end .0) ⌝ }
 {
     let whole = Bytes(length.0 - length.0 % 2);
     let sample = whole.frames();
-    start.0 < end.0 && end.0 <= sample.frames.0
+    start.0 <= end.0 && end.0 < sample.frames.0
 }
 
 // Rule 3, and rule 4, of a record.

@@ -19,6 +19,7 @@ use Rattle.session.specs.Sessions.{slotOf}
 use Rattle.session.specs.declared.Session.{Session}
 use Rattle.sheet_promises.specs.Grammar.{ObeysRules, AllObey, no-entry}
 use Rattle.sheet_promises.specs.Promises.{Among, first}
+use Rattle.promises.proofs.Proved.{proved as promise}
 use Rattle.writing.specs.Writing.{entryOf, entriesTo, entriesOf, unspoiltTo}
 use Rattle.writing.specs.Promises.{SomeListed}
 use Rattle.writing.proofs.Notes.{ListedTo, last-or-before, longer, last, entry-listed, entry-unlisted, counted-listed, counted-unlisted, sound-then}
@@ -66,12 +67,8 @@ shows s = record { each = each-to s 32; only = only-to s 32 }
 -- a listed slot in order obeys rules 3 and 4, and its note rule 2
 said-obeys : (before note : ℕ) (slot : Slot) → before < note → note ≤ 32 → slotInOrder slot ≡ true → ObeysRules before (said note slot)
 said-obeys before note slot above high ordered =
-    let o = slots .slots-in-order slot .0 ordered .0 in
-    record {
-      note-rule = rules .notes before note .1 (omega arith, high, above);
-      length-rule = rules .lengths _ .1 (o .even, o .at-least, o .at-most);
-      loop-rule = rules .loops _ _ _ .1 (o .rises, o .within);
-    }
+    promise .loops .one-rule before (said note slot) .1
+    (rules .notes before note .1 (omega arith, high, above), slots .slots-in-order slot .0 ordered .0)
 
 obeys-to : (s : Session) (n : ℕ) → n ≤ 32 → ((note : ℕ) → ListedTo s n note → slotInOrder (slotOf s note) ≡ true)
     → AllObey 0 (entriesTo s n)

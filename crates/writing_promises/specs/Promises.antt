@@ -78,7 +78,7 @@ pub record Promises : Type 0 where
       (es : List Entry) → countRule (length es) ≡ true → AllObey 0 es
       → ((e : Entry) → Among e es → StoredDigest (e .sample .digest))
       → IsSheet (sheetText es) es
-  -- document 01's three-line sheet is written of its two notes
+  -- the three-line sheet of document 01, with 2/13's loops, is written of its two notes
   pub example : sheetText exampleNotes ≡ exampleText
   -- "Write the sheet of a session": what is written is a sheet, of exactly the listed notes with their records,
   pub is-sheet :
