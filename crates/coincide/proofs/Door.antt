@@ -1,11 +1,15 @@
 -- `door`: any two results that meet a contract coincide. Assumes nothing.
-use mathlib.Core.Path.{refl, sym, _∙_}
+use mathlib.Core.Path.{_≡_, refl, sym, ap, _∙_}
 use Prim.Native.Nat.{ℕ}
 use mathlib.Core.List.{List}
 use denote.Ref.{now}
 use Rattle.session.specs.declared.Session.{Session}
 use Rattle.hash.specs.declared.Hash.{Hash}
 use Rattle.writing.specs.Promises.{Row}
+use Rattle.session.specs.declared.Delivered.{Delivered}
+use Rattle.session.specs.Promises.{AskRow, Row as DeliveryRow}
+use Rattle.session.proofs.Proved.{proved as session}
+use Rattle.slots.specs.declared.Answer.{Answer}
 use Rattle.writing.proofs.Proved.{proved as writing}
 use Rattle.coincide.specs.Coincide.{Coincide, CoincideAt, Means, Says}
 use Rattle.door.proofs.vs_update_in_place as vs-update-in-place′
@@ -62,6 +66,27 @@ vs-sheet-write κs a x y e f p q = (p .0 ∙ sym (q .0), p .1 ∙ sym (q .1))
 -- what meets the contract is the row of the table for writing that holds of this session and this buffer
 pub vs-sheet-write-rows : Means vs-sheet-write′.ended (vs-sheet-write-says .claim) (λ κs a r e. Row (now (a .0)) (now (a .1 .0)) r (now (e .1 .0)))
 vs-sheet-write-rows κs a r e = writing .table (now (a .0)) (now (a .1 .0)) r (now (e .1 .0))
+
+-- and so of asking and of a delivery, with this session, note and piece
+pub vs-ask-rows : Means vs-ask′.ended vs-ask′.Reads.Post (λ κs a r e. AskRow (a .0) (a .1 .0) r)
+vs-ask-rows κs a r e = session .ask-table (a .0) (a .1 .0) r
+
+pub vs-deliver-rows : Means vs-deliver′.ended vs-deliver′.Reads.Post (λ κs a r e. DeliveryRow (a .0) (a .1 .0) (now (a .1 .1 .0)) r)
+vs-deliver-rows κs a r e = session .table (a .0) (a .1 .0) (now (a .1 .1 .0)) r
+
+pub vs-ask-in-place-rows : Means vs-ask-in-place′.ended (vs-ask-in-place-says .claim) (λ κs a r e. AskRow (now (a .0)) (a .1 .0) r)
+vs-ask-in-place-rows κs a r e = session .ask-table (now (a .0)) (a .1 .0) r
+
+joined : (d : Delivered) (r : Answer) (s : Session) → r ≡ d .answer → s ≡ d .session → record { answer = r; session = s } ≡ d
+joined d r s e f = rw (e, f) refl
+
+pub vs-deliver-in-place-rows : Means vs-deliver-in-place′.ended (vs-deliver-in-place-says .claim)
+    (λ κs a r e. DeliveryRow (now (a .0)) (a .1 .0) (now (a .1 .1 .0)) (record { answer = r; session = now (e .0) }))
+vs-deliver-in-place-rows κs a r e =
+    let rows = session .table (now (a .0)) (a .1 .0) (now (a .1 .1 .0)) (record { answer = r; session = now (e .0) }) in (
+      λ p. rows .0 (joined _ r (now (e .0)) (p .0) (p .1)),
+      λ row. (ap (λ (d : Delivered). d .answer) (rows .1 row), ap (λ (d : Delivered). d .session) (rows .1 row)),
+    )
 
 pub vs-fold : Coincide vs-fold′.ended vs-fold′.Reads.Post
 vs-fold κs a x y e f p q = p ∙ sym q

@@ -1,3 +1,4 @@
+pub mod Tells
 pub mod Refusal
 pub mod Buffers
 pub mod Units

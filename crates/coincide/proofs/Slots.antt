@@ -1,6 +1,12 @@
 -- `slots`: any two results that meet a contract coincide. Assumes nothing.
-use mathlib.Core.Path.{sym, _∙_}
-use Rattle.coincide.specs.Coincide.{Coincide}
+use mathlib.Core.Path.{_≡_, sym, _∙_}
+use mathlib.Core.Bool.{true}
+use mathlib.Core.Logic.{_↔_}
+use Rattle.coincide.proofs.Tells.{tells}
+use Rattle.rules.specs.Promises.{Obeyed}
+use Rattle.slots.specs.Promises.{StateInOrder}
+use Rattle.slots.proofs.Proved.{proved as slots}
+use Rattle.coincide.specs.Coincide.{Coincide, Means}
 use Rattle.slots.proofs.slot_in_order as slot-in-order′
 use Rattle.slots.proofs.empty_slot as empty-slot′
 use Rattle.slots.proofs.waiting_slot as waiting-slot′
@@ -9,6 +15,10 @@ use Rattle.slots.proofs.ask_at as ask-at′
 
 pub slot-in-order : Coincide slot-in-order′.ended slot-in-order′.Reads.Post
 slot-in-order κs a x y e f p q = p ∙ sym q
+
+-- what meets the contract is that this slot's record obeys rules 3 and 4 and its state fits its status
+pub slot-in-order-means : Means slot-in-order′.ended slot-in-order′.Reads.Post (λ κs a r e. (r ≡ true) ↔ (Obeyed (a .0 .sample) × StateInOrder (a .0)))
+slot-in-order-means κs a r e = tells _ r (slots .slots-in-order (a .0))
 
 pub empty-slot : Coincide empty-slot′.ended empty-slot′.Reads.Post
 empty-slot κs a x y e f p q = p ∙ sym q

@@ -1,9 +1,9 @@
 -- What the sheet's steps promise, one by one. What they promise of whole texts is in the crate `sheet_promises`.
-use Prim.Native.Nat.{ℕ}
+use Prim.Native.Nat.{ℕ, suc, _+_, _<_, _≤_}
 use mathlib.Core.Path.{_≡_}
 use mathlib.Core.List.{List}
 use mathlib.Core.Bool.{true, false}
-use lib.ListN.{replicate}
+use lib.ListN.{length, replicate}
 use Rattle.refusal.specs.Table.{accepted, form, countOrNote, badLength, badLoop}
 use Rattle.rules.specs.Rules.{countRule, noteRule, goodLength, goodLoop}
 use Rattle.standard.specs.Standard.{IV}
@@ -12,7 +12,7 @@ use Rattle.lines.specs.Lines.{noteLine, headerLine}
 use Rattle.lines.specs.declared.Field.{Field}
 use Rattle.lines.specs.declared.Entry.{Entry}
 use Rattle.lines.specs.declared.NoteLine.{NoteLine}
-use Rattle.sheet.specs.Judging.{headerAt, headerNumber, entryNumber, noteNumber}
+use Rattle.sheet.specs.Judging.{headerAt, headerNumber, entryNumber, noteNumber, judgedNotes, judged}
 use Rattle.sheet.specs.Filling.{listing, start}
 use Rattle.sheet.specs.declared.Verdict.{Verdict}
 
@@ -38,6 +38,26 @@ pub record OfLine (last : ℕ) (l : NoteLine) : Type 0 where
   pub ill-formed : (l .stop .wanted ≡ 0 → ⊥) → noteNumber last l ≡ form
   pub well-formed : l .stop .wanted ≡ 0 → noteNumber last l ≡ entryNumber last (l .entry)
 
+-- "Lines are judged in order and the first bad one decides": the line at a place, and then the others; then "Nothing follows"
+pub record OfNotes (text : List ℕ) (at line last : ℕ) : Type 0 where
+  pub this :
+      (notes : ℕ) → (noteNumber last (noteLine text at) ≡ accepted → ⊥)
+      → judgedNotes (suc notes) text at line last ≡ record { number = noteNumber last (noteLine text at); line = line }
+  pub rest :
+      (notes : ℕ) → noteNumber last (noteLine text at) ≡ accepted
+      → judgedNotes (suc notes) text at line last
+      ≡ judgedNotes notes text (noteLine text at .stop .at) (line + 1) (noteLine text at .entry .note)
+  pub follows : at < length text → judgedNotes 0 text at line last ≡ record { number = form; line = line }
+  pub ends : length text ≤ at → judgedNotes 0 text at line last ≡ record { number = accepted; line = 0 }
+
+-- the header is line 1, and its notes begin behind it, at line 2, after no note
+pub record OfSheet (text : List ℕ) (at : ℕ) : Type 0 where
+  pub header :
+      (headerNumber (headerAt text at) ≡ accepted → ⊥) → judged text at ≡ record { number = headerNumber (headerAt text at); line = 1 }
+  pub notes :
+      headerNumber (headerAt text at) ≡ accepted
+      → judged text at ≡ judgedNotes (headerAt text at .value) text (headerAt text at .stop .at) 2 0
+
 pub record Promises : Type 0 where
   -- "Line 1: `RANK`, `1`": the figure 1
   pub header-at : (text : List ℕ) (at : ℕ) → headerAt text at ≡ headerLine text at 0x31
@@ -45,6 +65,8 @@ pub record Promises : Type 0 where
   pub of-header : (h : Field) → OfHeader h
   pub of-entry : (last : ℕ) (e : Entry) → OfEntry last e
   pub of-line : (last : ℕ) (l : NoteLine) → OfLine last l
+  pub of-notes : (text : List ℕ) (at line last : ℕ) → OfNotes text at line last
+  pub of-sheet : (text : List ℕ) (at : ℕ) → OfSheet text at
   -- the note lines begin behind the header, and a refused sheet has none
   pub starts : (h : Field) (v : Verdict) → v .number ≡ accepted → start h v ≡ record { at = h .stop .at; notes = h .value }
   pub starts-none : (h : Field) (v : Verdict) → (v .number ≡ accepted → ⊥) → start h v ≡ record { at = h .stop .at; notes = 0 }
