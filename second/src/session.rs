@@ -60,9 +60,10 @@ impl Record {
         self.length.is_multiple_of(2) && (2..=LONGEST_SAMPLE).contains(&self.length)
     }
 
-    /// Rule 4: start < end <= length/2, two bytes being one frame.
+    /// Rule 4: start <= end < length/2, two bytes being one frame and the end
+    /// the last frame played.
     pub fn loop_allowed(&self) -> bool {
-        self.loop_start < self.loop_end && self.loop_end <= self.length / 2
+        self.loop_start <= self.loop_end && self.loop_end < self.length / 2
     }
 }
 

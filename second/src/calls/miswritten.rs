@@ -2,17 +2,18 @@
 
 use crate::calls::answer::written_text;
 use crate::calls::call::Call;
+use crate::folders::loop_rules::{self, Rule};
 use crate::hash::State;
 use crate::refusal::{ACCEPTED, NONE_LISTED, SHORT_BUFFER, SLOT_NOT_IN_ORDER};
 use crate::session::{Record, Session, Slot, NONE, NOTES, OPEN, WAITING};
 use crate::writing::{self, Written};
 
 /// A copy of the writer: the places where the mistaken ones go wrong.
-struct Writer {
+struct Writer<'a> {
     /// The refusals in the order in which they are judged.
     order: [u8; 3],
     /// Whether a slot gives no cause for 6.
-    in_order: fn(u64, &Slot) -> bool,
+    in_order: &'a dyn Fn(u64, &Slot) -> bool,
     /// Whether a slot has its line.
     listed: fn(&Slot) -> bool,
     line: fn(u64, &Slot) -> String,
@@ -20,15 +21,15 @@ struct Writer {
     fits: fn(usize, usize) -> bool,
 }
 
-const HONEST: Writer = Writer {
+const HONEST: Writer<'static> = Writer {
     order: [SLOT_NOT_IN_ORDER, NONE_LISTED, SHORT_BUFFER],
-    in_order: |_, slot| slot.status == NONE || slot.in_order(),
+    in_order: &|_, slot| slot.status == NONE || slot.in_order(),
     listed: |slot| slot.status != NONE,
     line: |note, slot| writing::line(note, &slot.record),
     fits: |sheet, buffer| sheet <= buffer,
 };
 
-impl Writer {
+impl Writer<'_> {
     fn answer(&self, call: &Call) -> Option<String> {
         let (session, buffer) = asked(call)?;
         let slots = || (1..=NOTES).zip(&session.slots);
@@ -104,7 +105,7 @@ pub fn exact_refused(call: &Call) -> Option<String> {
 /// A spoilt slot that lists no note is refused.
 pub fn unlisted_judged(call: &Call) -> Option<String> {
     Writer {
-        in_order: |_, slot| *slot == Slot::UNLISTED || slot.in_order(),
+        in_order: &|_, slot| *slot == Slot::UNLISTED || slot.in_order(),
         ..HONEST
     }
     .answer(call)
@@ -113,7 +114,7 @@ pub fn unlisted_judged(call: &Call) -> Option<String> {
 /// The first slot is not judged.
 pub fn first_unjudged(call: &Call) -> Option<String> {
     Writer {
-        in_order: |note, slot| note == 1 || (HONEST.in_order)(note, slot),
+        in_order: &|note, slot| note == 1 || (HONEST.in_order)(note, slot),
         ..HONEST
     }
     .answer(call)
@@ -122,7 +123,7 @@ pub fn first_unjudged(call: &Call) -> Option<String> {
 /// The last slot is not judged.
 pub fn last_unjudged(call: &Call) -> Option<String> {
     Writer {
-        in_order: |note, slot| note == NOTES || (HONEST.in_order)(note, slot),
+        in_order: &|note, slot| note == NOTES || (HONEST.in_order)(note, slot),
         ..HONEST
     }
     .answer(call)
@@ -131,10 +132,19 @@ pub fn last_unjudged(call: &Call) -> Option<String> {
 /// The hash state is not judged, as nothing of it is written.
 pub fn states_unjudged(call: &Call) -> Option<String> {
     Writer {
-        in_order: |note, slot| {
+        in_order: &|note, slot| {
             let state = State::fresh();
             (HONEST.in_order)(note, &Slot { state, ..*slot })
         },
+        ..HONEST
+    }
+    .answer(call)
+}
+
+/// The loops of the slots are judged by a wrong rule.
+pub fn in_writing(call: &Call, rule: Rule) -> Option<String> {
+    Writer {
+        in_order: &|note, slot| (HONEST.in_order)(note, &loop_rules::judged_slot(slot, rule)),
         ..HONEST
     }
     .answer(call)

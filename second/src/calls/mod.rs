@@ -6,6 +6,7 @@ pub mod call;
 pub mod kinds;
 pub mod lax;
 pub mod lines;
+pub mod misjudged;
 pub mod miswritten;
 pub mod paddings;
 pub mod sessions;

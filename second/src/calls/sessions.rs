@@ -6,7 +6,7 @@ use crate::calls::states::{self, LONGEST_SLICE};
 use crate::calls::values::Lent;
 use crate::hash::State;
 use crate::making::random::Random;
-use crate::making::{faults, notes, sheets};
+use crate::making::{faults, loops, notes, sheets};
 use crate::padding::LONGEST;
 use crate::refusal::ACCEPTED;
 use crate::session::{Record, Session, Slot, NONE, NOTES, OPEN, SHUT, WAITING};
@@ -100,10 +100,10 @@ fn scene(wish: &mut Wish) -> Scene {
 }
 
 /// Mostly the note itself; else one that is out of bounds or not listed, or
-/// whose low bits are the note's. Where each status has its only turn, it is
-/// the note itself.
+/// whose low bits are the note's. Where each status, or each loop at a limit,
+/// has its only turn, it is the note itself.
 fn note(wish: &mut Wish, note: u64) -> u64 {
-    if wish.ordinal % SLOT_TURNS == STATUS_TURN {
+    if matches!(wish.ordinal % SLOT_TURNS, LOOP_TURN | STATUS_TURN) {
         return note;
     }
     let random = &mut wish.random;
@@ -146,9 +146,10 @@ fn piece(random: &mut Random, mut rest: Vec<u8>) -> Vec<u8> {
     rest
 }
 
-/// How many turns there are for slots, and the one that goes through all
-/// statuses.
+/// How many turns there are for slots, the one that goes through all loops at
+/// the limits, and the one that goes through all statuses.
 const SLOT_TURNS: u64 = 12;
+const LOOP_TURN: u64 = 4;
 const STATUS_TURN: u64 = 6;
 
 /// A slot by turns: in order, or spoilt in one of its parts.
@@ -156,7 +157,8 @@ pub fn slot(random: &mut Random, turn: u64) -> (Slot, Vec<u8>) {
     let (mut slot, rest) = waiting(random);
     let decided = random.pick(&[OPEN, SHUT]);
     match turn % SLOT_TURNS {
-        0..=4 => (),
+        0..=3 => (),
+        LOOP_TURN => return with_limit_loop(random, turn / SLOT_TURNS),
         5 => slot = decided_slot(slot.record, decided),
         STATUS_TURN => {
             slot.status = (turn / SLOT_TURNS % 256) as u8;
@@ -178,6 +180,23 @@ pub fn slot(random: &mut Random, turn: u64) -> (Slot, Vec<u8>) {
         }
         // Not listed, whatever else it holds.
         _ => slot.status = NONE,
+    }
+    (slot, rest)
+}
+
+/// A slot that is in order but for its loop, one at a limit by turns: all of
+/// them waiting, then open, then shut.
+pub fn with_limit_loop(random: &mut Random, turn: u64) -> (Slot, Vec<u8>) {
+    let (limit, round) = loops::in_turn(turn);
+    let (mut slot, rest) = waiting_for(random, limit.length);
+    slot.record = Record {
+        digest: slot.record.digest,
+        ..limit
+    };
+    match round % 3 {
+        0 => (),
+        1 => slot = decided_slot(slot.record, OPEN),
+        _ => slot = decided_slot(slot.record, SHUT),
     }
     (slot, rest)
 }
@@ -224,10 +243,15 @@ fn decided_slot(record: Record, status: u8) -> Slot {
     }
 }
 
-/// A waiting slot in order and the bytes it lacks. Two digests of three are
-/// those of the sample that these bytes end; the others are wrong by a bit.
+/// A waiting slot in order and the bytes it lacks.
 fn waiting(random: &mut Random) -> (Slot, Vec<u8>) {
     let length = notes::length(random);
+    waiting_for(random, length)
+}
+
+/// One for a sample of this length. Two digests of three are those of the
+/// sample that the bytes end; the others are wrong by a bit.
+fn waiting_for(random: &mut Random, length: u64) -> (Slot, Vec<u8>) {
     let most = if random.one_in(20) { 5000 } else { 200 };
     let lacking = random.within(1, length.min(most));
     let lacking = if random.one_in(4) { length } else { lacking };

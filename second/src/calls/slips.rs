@@ -7,9 +7,11 @@ use crate::calls::answer::{
 };
 use crate::calls::call::Call;
 use crate::calls::lax;
-use crate::calls::miswritten;
+use crate::calls::misjudged::{in_sheet, in_slot};
+use crate::calls::miswritten::{self, in_writing};
 use crate::calls::values::Lent;
-use crate::folders::slips::{loop_below, part_taken};
+use crate::folders::loop_rules as rule;
+use crate::folders::slips::part_taken;
 use crate::hash::{Compared, Digested, State};
 use crate::padding::{self, End, LONGEST};
 use crate::refusal::{ACCEPTED, OTHER_TAIL, TOO_LONG};
@@ -26,7 +28,7 @@ pub struct Slip {
 
 /// Every slip: of padding, of hash, of session, of reading a sheet, of writing
 /// one, of reading a line.
-pub const SLIPS: [Slip; 45] = [
+pub const SLIPS: [Slip; 62] = [
     slip("padding-one-block", one_block),
     slip("padding-rest-cleared", rest_cleared),
     slip("padding-inside-unjudged", inside_unjudged),
@@ -43,7 +45,28 @@ pub const SLIPS: [Slip; 45] = [
     slip("session-part-taken", delivered_in_part),
     slip("session-state-kept", state_kept),
     slip("session-decided-unjudged", decided_unjudged),
-    slip("sheet-loop-below", sheet_loop_below),
+    slip("session-loop-below", |call| in_slot(call, rule::below)),
+    slip("session-loop-old", |call| in_slot(call, rule::old)),
+    slip("session-loop-one-frame-refused", |call| {
+        in_slot(call, rule::one_frame_refused)
+    }),
+    slip("session-loop-frame-beyond", |call| {
+        in_slot(call, rule::frame_beyond)
+    }),
+    slip("session-loop-unhalved", |call| {
+        in_slot(call, rule::unhalved)
+    }),
+    slip("session-loop-wrapped", |call| in_slot(call, rule::wrapped)),
+    slip("sheet-loop-below", |call| in_sheet(call, rule::below)),
+    slip("sheet-loop-old", |call| in_sheet(call, rule::old)),
+    slip("sheet-loop-one-frame-refused", |call| {
+        in_sheet(call, rule::one_frame_refused)
+    }),
+    slip("sheet-loop-frame-beyond", |call| {
+        in_sheet(call, rule::frame_beyond)
+    }),
+    slip("sheet-loop-unhalved", |call| in_sheet(call, rule::unhalved)),
+    slip("sheet-loop-wrapped", |call| in_sheet(call, rule::wrapped)),
     slip("sheet-refused-lists", refused_lists),
     slip("writing-short-before-slots", miswritten::short_before_slots),
     slip("writing-short-before-none", miswritten::short_before_none),
@@ -57,6 +80,20 @@ pub const SLIPS: [Slip; 45] = [
     slip("writing-unlisted-judged", miswritten::unlisted_judged),
     slip("writing-first-unjudged", miswritten::first_unjudged),
     slip("writing-last-unjudged", miswritten::last_unjudged),
+    slip("writing-loop-below", |call| in_writing(call, rule::below)),
+    slip("writing-loop-old", |call| in_writing(call, rule::old)),
+    slip("writing-loop-one-frame-refused", |call| {
+        in_writing(call, rule::one_frame_refused)
+    }),
+    slip("writing-loop-frame-beyond", |call| {
+        in_writing(call, rule::frame_beyond)
+    }),
+    slip("writing-loop-unhalved", |call| {
+        in_writing(call, rule::unhalved)
+    }),
+    slip("writing-loop-wrapped", |call| {
+        in_writing(call, rule::wrapped)
+    }),
     slip("writing-states-unjudged", miswritten::states_unjudged),
     slip("writing-status-unlisted", miswritten::status_unlisted),
     slip("writing-open-left-out", miswritten::open_left_out),
@@ -323,14 +360,6 @@ fn decided_unjudged(call: &Call) -> Option<String> {
         }
     }
     answer(&call)
-}
-
-/// A loop that ends as late as it may is refused.
-fn sheet_loop_below(call: &Call) -> Option<String> {
-    let Call::SheetRead { text, .. } = call else {
-        return None;
-    };
-    Some(sheet_text(&loop_below(text.bytes()?)))
 }
 
 /// The notes before a refused line stay listed.

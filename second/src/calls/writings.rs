@@ -11,7 +11,12 @@ use crate::writing::{self, LONGEST_SHEET};
 
 pub fn sheet_write(wish: &mut Wish) -> Call {
     let session = session(wish);
-    let size = buffer_size(&mut wish.random, writing::text(&session).len());
+    let sheet = writing::text(&session).len();
+    let mut size = buffer_size(&mut wish.random, sheet);
+    // Every loop that is allowed is to be written.
+    if wish.ordinal % TURNS == LOOP_TURN {
+        size = size.max(sheet);
+    }
     Call::SheetWrite {
         session: Box::new(session),
         buffer: wish.random.bytes(size),
@@ -33,22 +38,25 @@ fn buffer_size(random: &mut Random, sheet: usize) -> usize {
     }
 }
 
-/// How many turns there are for sessions.
+/// How many turns there are for sessions, and the one that goes through all
+/// loops at the limits.
 const TURNS: u64 = 15;
+const LOOP_TURN: u64 = 4;
 
 /// The place of the last note's slot.
 const LAST: usize = NOTES as usize - 1;
 
 /// A session by turns: of an accepted sheet, with notes loaded in part or in
-/// full, with one slot spoilt or many, with no note listed, or with numbers of
-/// every width.
+/// full, with a loop at a limit, with one slot spoilt or many, with no note
+/// listed, or with numbers of every width.
 fn session(wish: &mut Wish) -> Session {
     let random = &mut wish.random;
     let few = notes::count(random);
     let many = random.within(2, NOTES);
     match wish.ordinal % TURNS {
         0 | 1 => of_sheet(random, wish.ordinal / TURNS % NOTES + 1),
-        2..=4 => loaded(random, few),
+        2 | 3 => loaded(random, few),
+        LOOP_TURN => with_limit_loop(random, few, wish.ordinal / TURNS),
         5 => with_unlisted(random, few),
         6 => spoilt(random, many, |_, listed| [0, listed[0]]),
         7 => spoilt(random, many, |_, listed| [LAST, listed[listed.len() - 1]]),
@@ -73,6 +81,15 @@ fn loaded(random: &mut Random, count: u64) -> Session {
     for note in notes::rising(random, count) {
         session.slots[note as usize - 1] = sessions::in_order(random);
     }
+    session
+}
+
+/// So many notes in order, and one slot where nothing but a loop at a limit may
+/// be at fault.
+fn with_limit_loop(random: &mut Random, count: u64, turn: u64) -> Session {
+    let mut session = loaded(random, count);
+    let place = random.index(session.slots.len());
+    session.slots[place] = sessions::with_limit_loop(random, turn).0;
     session
 }
 

@@ -1,10 +1,9 @@
 //! Folders of every kind: a sheet and what stands beside it.
 
 use crate::hash;
-use crate::making::notes;
 use crate::making::random::Random;
-use crate::making::sheets;
 use crate::making::turns::{turn, Weighted};
+use crate::making::{loops, notes, sheets};
 use crate::program::PIECE;
 use crate::session::{Record, NOTES};
 use std::io;
@@ -159,6 +158,18 @@ fn voice(random: &mut Random, length: u64, size: usize) -> Voice {
     Voice { record, file }
 }
 
+/// A note with a loop at a limit, the allowed ones by turns, and a file of which
+/// every byte is taken.
+fn limit_voice(random: &mut Random, turn: u64) -> Voice {
+    let limit = loops::allowed_in_turn(turn);
+    let Voice { record, file } = voice(random, limit.length, limit.length.min(64) as usize);
+    let digest = record.digest;
+    Voice {
+        record: Record { digest, ..limit },
+        file,
+    }
+}
+
 /// The folder of some notes, each with its file.
 fn folder(random: &mut Random, voices: Vec<Voice>) -> Vec<(String, Entry)> {
     let notes = notes::rising(random, voices.len() as u64);
@@ -270,6 +281,7 @@ fn many(random: &mut Random, ordinal: u64) -> Vec<(String, Entry)> {
 
 /// Files of which a piece is refused and the next would fit. The digest is
 /// that of the file without the refused piece, which no one may find open.
+/// Beside it is a note of which nothing is refused.
 fn skips(random: &mut Random, ordinal: u64) -> Vec<(String, Entry)> {
     let whole = ordinal as usize % 3;
     let rest = 2 * random.within(1, PIECE as u64 / 2 - 1) as usize;
@@ -280,7 +292,7 @@ fn skips(random: &mut Random, ordinal: u64) -> Vec<(String, Entry)> {
     kept.extend_from_slice(&file[(whole + 1) * PIECE..]);
     let length = (whole * PIECE + rest) as u64;
     let record = notes::record(random, length, hash::digest(&kept).digest);
-    let other = voice(random, 64, 64);
+    let other = limit_voice(random, ordinal);
     folder(random, vec![Voice { record, file }, other])
 }
 

@@ -1,10 +1,11 @@
 //! Copies of the program, each with one mistake, to show that the comparison
 //! of folders finds it. Nothing else uses them.
 
+use crate::folders::loop_rules as rule;
 use crate::program::{self, PIECE};
-use crate::refusal::{ACCEPTED, BAD_LOOP, DECIDED, PAST_LENGTH};
-use crate::session::{Answer, Record, Session, NONE, NOTES, WAITING};
-use crate::sheet::{self, Sheet, Verdict};
+use crate::refusal::{ACCEPTED, DECIDED, PAST_LENGTH};
+use crate::session::{Answer, Session, NOTES, WAITING};
+use crate::sheet::{self, Sheet};
 use std::path::Path;
 
 /// A mistaken program: the places where the copies go wrong.
@@ -19,10 +20,41 @@ pub struct Slip {
 }
 
 /// Every slip.
-pub const SLIPS: [Slip; 9] = [
+pub const SLIPS: [Slip; 15] = [
     Slip {
         name: "loop-below",
-        read: loop_below,
+        read: |text| rule::read(text, rule::below),
+        ..HONEST
+    },
+    Slip {
+        name: "loop-old",
+        read: |text| rule::read(text, rule::old),
+        ..HONEST
+    },
+    Slip {
+        name: "loop-one-frame-refused",
+        read: |text| rule::read(text, rule::one_frame_refused),
+        ..HONEST
+    },
+    Slip {
+        name: "loop-frame-beyond",
+        read: |text| rule::read(text, rule::frame_beyond),
+        ..HONEST
+    },
+    Slip {
+        name: "loop-unhalved",
+        read: |text| rule::read(text, rule::unhalved),
+        ..HONEST
+    },
+    Slip {
+        name: "loop-wrapped",
+        read: |text| rule::read(text, rule::wrapped),
+        ..HONEST
+    },
+    // What a sheet has accepted, the laxer rules allow in its slot too.
+    Slip {
+        name: "slot-loop-old",
+        deliver: |session, note, piece| rule::deliver(session, note, piece, rule::old),
         ..HONEST
     },
     Slip {
@@ -102,30 +134,6 @@ impl Slip {
     }
 }
 
-/// A loop that ends as late as it may is refused.
-pub fn loop_below(text: &[u8]) -> Sheet {
-    let mut sheet = sheet::read(text);
-    let listed = sheet
-        .session
-        .slots
-        .iter()
-        .filter(|slot| slot.status != NONE);
-    let first = listed
-        .enumerate()
-        .find(|(_, slot)| !later_end(&slot.record).loop_allowed());
-    if let Some((place, _)) = first {
-        sheet = refused(BAD_LOOP, place as u64 + 2);
-    }
-    sheet
-}
-
-fn later_end(record: &Record) -> Record {
-    Record {
-        loop_end: record.loop_end + 1,
-        ..*record
-    }
-}
-
 /// What fits of a refused piece is taken, and decides the note.
 pub fn part_taken(session: &mut Session, note: u64, piece: &[u8]) -> Answer {
     let answer = session.deliver(note, piece);
@@ -190,11 +198,4 @@ fn line_from_zero(text: &[u8]) -> Sheet {
     let mut sheet = sheet::read(text);
     sheet.verdict.line = sheet.verdict.line.saturating_sub(1);
     sheet
-}
-
-fn refused(number: u8, line: u64) -> Sheet {
-    Sheet {
-        verdict: Verdict { number, line },
-        session: Session::unlisted(),
-    }
 }

@@ -177,7 +177,8 @@ pub fn bad_length(random: &mut Random, length: u64) -> u64 {
 /// A loop that rule 4 refuses.
 pub fn bad_loop(random: &mut Random, record: &Record) -> (u64, u64) {
     let (start, end) = (record.loop_start, record.loop_end);
-    let mut records = looped(random, record, &[start, end, record.length, 4294967295]);
+    let more = [start, end, end + 1, record.length, 4294967295];
+    let mut records = looped(random, record, &more);
     records.retain(|record| !record.loop_allowed());
     let bad = random.pick(&records);
     (bad.loop_start, bad.loop_end)

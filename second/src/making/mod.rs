@@ -1,7 +1,8 @@
-//! What both drivers make their cases with: a seeded source of numbers, turns,
-//! and sheets that are good or spoilt in a known way.
+//! What the drivers make their cases with: a seeded source of numbers, turns,
+//! sheets that are good or spoilt in a known way, and loops at the limits.
 
 pub mod faults;
+pub mod loops;
 pub mod notes;
 pub mod random;
 pub mod sheets;

@@ -1,9 +1,9 @@
 //! Sheets of every kind, good and spoilt.
 
-use crate::making::faults;
 use crate::making::notes::{self, Fields};
 use crate::making::random::Random;
 use crate::making::turns::{turn, Weighted};
+use crate::making::{faults, loops};
 use crate::refusal::{BAD_LENGTH, BAD_LOOP, COUNT_OR_NOTE, FORM};
 use crate::session::{Record, NOTES};
 
@@ -21,17 +21,18 @@ impl Weighted for Kind {
 }
 
 /// All kinds, and how often each has its turn.
-pub const KINDS: [Kind; 10] = [
+pub const KINDS: [Kind; 11] = [
     kind("good", 3, good),
     kind("rule", 8, rule_at_line),
+    kind("loops", 2, loop_at_limit),
     kind("form", 8, form_at_line),
     kind("edge", 6, edge_number),
     kind("faults", 4, several_faults),
     kind("stops", 2, stops),
     kind("ends", 2, line_ends),
     kind("long", 1, long),
-    kind("damage", 4, damaged),
-    kind("tokens", 2, tokens),
+    kind("damage", 3, damaged),
+    kind("tokens", 1, tokens),
 ];
 
 const fn kind(name: &'static str, weight: u64, make: fn(&mut Random, u64) -> Vec<u8>) -> Kind {
@@ -108,6 +109,18 @@ fn replaced(lines: &[Fields], line: usize, text: &[u8]) -> Vec<u8> {
     sheet.extend_from_slice(text);
     sheet.extend_from_slice(&notes::text(&lines[line..]));
     sheet
+}
+
+/// Every loop at a limit, in the line of one of some notes.
+fn loop_at_limit(random: &mut Random, ordinal: u64) -> Vec<u8> {
+    let count = notes::count(random);
+    let mut notes = notes::some(random, count);
+    let record = &mut notes[random.index(count as usize)].1;
+    *record = Record {
+        digest: record.digest,
+        ..loops::in_turn(ordinal).0
+    };
+    notes::text(&notes::lines(&notes))
 }
 
 /// Every spoilt form: those of line 1, then those of a note's line.
@@ -288,8 +301,8 @@ fn tokens(random: &mut Random, _ordinal: u64) -> Vec<u8> {
         b"\t",
         b"\t",
         b"\n",
-        b"5\t64\t0\t32\t",
-        b"9\t6\t0\t3\t",
+        b"5\t64\t0\t31\t",
+        b"9\t6\t0\t2\t",
         &digest,
         &digest,
         b"\n",

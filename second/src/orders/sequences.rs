@@ -4,8 +4,8 @@ use crate::calls::call::Call;
 use crate::calls::sessions;
 use crate::calls::values::Lent;
 use crate::hash;
-use crate::making::notes;
 use crate::making::random::Random;
+use crate::making::{loops, notes};
 use crate::session::{Record, Session, NOTES};
 use crate::writing::LONGEST_SHEET;
 
@@ -66,7 +66,8 @@ impl Sequence {
 pub fn at(seed: u64, index: u64) -> Sequence {
     let mut random = Random::new(seed, "orders", index);
     let (start, mut parts) = if index.is_multiple_of(2) {
-        from_sheet(&mut random)
+        // Each turn comes by value and in place.
+        from_sheet(&mut random, index / 4)
     } else {
         from_stored(&mut random, index / 2)
     };
@@ -95,24 +96,46 @@ pub fn at(seed: u64, index: u64) -> Sequence {
 /// A note, and the pieces that it is to get.
 type Part = (u64, Vec<Vec<u8>>);
 
-/// Two to five notes of a sheet, with the right digest or a wrong one.
-fn from_sheet(random: &mut Random) -> (Start, Vec<Part>) {
+/// Two to five notes of a sheet, the first with a loop at a limit.
+fn from_sheet(random: &mut Random, turn: u64) -> (Start, Vec<Part>) {
     let count = random.within(2, 5);
     let mut listed: Vec<(u64, Record)> = Vec::new();
     let mut parts = Vec::new();
     for note in notes::rising(random, count) {
-        let most = random.pick(&[40, 40, 150, 2500]);
-        let sample_length = 2 * random.within(1, most) as usize;
-        let sample = random.bytes(sample_length);
-        let mut digest = hash::digest(&sample).digest;
-        if random.one_in(3) {
-            digest[random.index(32)] ^= random.bit();
-        }
-        listed.push((note, notes::record(random, sample_length as u64, digest)));
+        let (record, sample) = if listed.is_empty() {
+            with_limit_loop(random, turn)
+        } else {
+            with_any_loop(random)
+        };
+        listed.push((note, record));
         parts.push((note, pieces(random, &sample)));
     }
     let text = notes::text(&notes::lines(&listed));
     (Start::Sheet(text), parts)
+}
+
+fn with_any_loop(random: &mut Random) -> (Record, Vec<u8>) {
+    let most = random.pick(&[40, 40, 150, 2500]);
+    let sample_length = 2 * random.within(1, most);
+    let (sample, digest) = sample(random, sample_length);
+    (notes::record(random, sample_length, digest), sample)
+}
+
+/// Allowed loops by turns. Of a long sample only the first bytes come.
+fn with_limit_loop(random: &mut Random, turn: u64) -> (Record, Vec<u8>) {
+    let limit = loops::allowed_in_turn(turn);
+    let (sample, digest) = sample(random, limit.length.min(100));
+    (Record { digest, ..limit }, sample)
+}
+
+/// Bytes, and their digest or a wrong one.
+fn sample(random: &mut Random, length: u64) -> (Vec<u8>, [u8; 32]) {
+    let sample = random.bytes(length as usize);
+    let mut digest = hash::digest(&sample).digest;
+    if random.one_in(3) {
+        digest[random.index(32)] ^= random.bit();
+    }
+    (sample, digest)
 }
 
 /// Slots of every kind, in order or not, and two to five notes among them.

@@ -52,7 +52,7 @@ fn every_slip_in_calls_is_found() {
     ];
     let output = drive(&folder, &arguments);
     let all = said(&output);
-    assert_eq!(all.matches(" found by call ").count(), 45, "{all}");
+    assert_eq!(all.matches(" found by call ").count(), 62, "{all}");
     assert!(!all.contains("not found"));
     assert_eq!(output.status.code(), Some(0));
 }
@@ -194,7 +194,7 @@ fn every_slip_in_folders_is_found() {
     let arguments = ["folders", "--slip", "all", "2000", "3", SECOND, "load", "."];
     let output = drive(&folder, &arguments);
     let all = said(&output);
-    assert_eq!(all.matches(" found by folder ").count(), 9, "{all}");
+    assert_eq!(all.matches(" found by folder ").count(), 15, "{all}");
     assert!(last_line(&output).ends_with("\tdiffer 0"));
     assert_eq!(output.status.code(), Some(0));
     assert_eq!(entries(&folder), 0, "nothing is left behind");

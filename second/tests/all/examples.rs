@@ -47,7 +47,7 @@ fn block_counts() {
 
 #[test]
 fn loops_with_32_frames() {
-    for (bounds, number) in [("0 32", 0), ("0 33", 4), ("32 32", 4)] {
+    for (bounds, number) in [("0 31", 0), ("31 31", 0), ("0 32", 4), ("32 32", 4)] {
         let text = help::sheet(&["RANK 1 1", &format!("5 64 {bounds} Z")]);
         assert_eq!(
             sheet::read(text.as_bytes()).verdict.number,
@@ -93,7 +93,7 @@ fn comparison_of_abc() {
 fn the_longest_sheet_has_3233_bytes() {
     let mut lines = vec!["RANK 1 32".to_string()];
     for note in 1..=32 {
-        lines.push(format!("{note} 4294967294 2147483645 2147483646 Z"));
+        lines.push(format!("{note} 4294967294 2147483646 2147483646 Z"));
     }
     let lines: Vec<&str> = lines.iter().map(String::as_str).collect();
     let text = help::sheet(&lines);
@@ -106,7 +106,7 @@ fn the_longest_sheet_has_3233_bytes() {
 #[test]
 fn the_program_prints_its_example() {
     let folder = help::folder("example");
-    let text = help::sheet(&["RANK 1 2", "5 64 0 32 Z", "9 6 0 3 Z"]);
+    let text = help::sheet(&["RANK 1 2", "5 64 0 31 Z", "9 6 0 2 Z"]);
     std::fs::write(folder.join("rank.txt"), text).unwrap();
     std::fs::write(folder.join("05.raw"), b"abcd".repeat(16)).unwrap();
     std::fs::write(folder.join("09.raw"), b"four").unwrap();

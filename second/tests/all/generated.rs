@@ -64,7 +64,7 @@ fn good_sheets_are_accepted_and_all_kinds_are_made() {
         assert!(kind != "good" || read.verdict.number == 0);
         *kinds.entry(kind).or_insert(0) += 1;
     }
-    assert_eq!(kinds.len(), 10);
+    assert_eq!(kinds.len(), 11);
     assert!(kinds.values().all(|count| *count >= 50), "{kinds:?}");
 }
 

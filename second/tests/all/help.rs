@@ -36,9 +36,85 @@ pub fn record(length: u64, digest: [u8; 32]) -> Record {
     Record {
         length,
         loop_start: 0,
-        loop_end: length / 2,
+        loop_end: length / 2 - 1,
         digest,
     }
+}
+
+/// The greatest number of 32 bits, after which none comes.
+const MAX: u64 = 4294967295;
+
+/// Loops on both sides of rule 4's limits: a sample's length, the loops that are
+/// allowed, and those that are refused.
+type Loops = (u64, &'static [(u64, u64)], &'static [(u64, u64)]);
+
+const LOOPS: [Loops; 4] = [
+    (
+        2,
+        &[(0, 0)],
+        &[(0, 1), (1, 1), (1, 0), (0, MAX), (MAX, MAX)],
+    ),
+    (
+        4,
+        &[(0, 0), (0, 1), (1, 1)],
+        &[
+            (0, 2),
+            (1, 2),
+            (2, 2),
+            (2, 1),
+            (1, 0),
+            (0, 3),
+            (0, MAX),
+            (MAX, MAX),
+        ],
+    ),
+    (
+        64,
+        &[(0, 0), (0, 31), (31, 31)],
+        &[
+            (0, 32),
+            (31, 32),
+            (32, 32),
+            (32, 31),
+            (1, 0),
+            (0, 63),
+            (0, MAX),
+            (MAX, MAX),
+        ],
+    ),
+    (
+        4294967294,
+        &[(0, 0), (0, 2147483646), (2147483646, 2147483646)],
+        &[
+            (0, 2147483647),
+            (2147483646, 2147483647),
+            (2147483647, 2147483647),
+            (2147483647, 2147483646),
+            (1, 0),
+            (0, 4294967293),
+            (0, MAX),
+            (MAX, MAX),
+        ],
+    ),
+];
+
+/// A record with each of these loops, and whether it is allowed.
+pub fn loops() -> Vec<(Record, bool)> {
+    let mut all = Vec::new();
+    for (length, allowed, refused) in LOOPS {
+        for (loops, good) in [(allowed, true), (refused, false)] {
+            all.extend(loops.iter().map(|(loop_start, loop_end)| {
+                let record = Record {
+                    length,
+                    loop_start: *loop_start,
+                    loop_end: *loop_end,
+                    digest: [0; 32],
+                };
+                (record, good)
+            }));
+        }
+    }
+    all
 }
 
 /// A session that lists note 5 alone, for this very sample.

@@ -2,7 +2,7 @@
 
 use crate::help;
 use second::hash::State;
-use second::session::{Answer, Session, Slot};
+use second::session::{Answer, Record, Session, Slot};
 
 fn answers(session: &Session) -> (u8, u8) {
     let mut delivered = *session;
@@ -43,36 +43,54 @@ fn an_unlisted_slot_is_5_whatever_it_holds() {
     assert_eq!(got, (5, 5));
 }
 
+/// A slot with this record, waiting or decided, is in order or not.
+fn record_judged(record: &Record, in_order: bool) {
+    for (status, delivered) in [(1, 0), (2, 7), (3, 7)] {
+        let got = changed(|slot| {
+            slot.status = status;
+            slot.record = *record;
+        });
+        let expected = if in_order { (delivered, 0) } else { (6, 6) };
+        assert_eq!(got, expected, "status {status}, {record:?}");
+    }
+}
+
 #[test]
 fn records_against_rule_3_or_4() {
-    for (length, start, end, number) in [
-        (6, 0, 3, 0),
-        (6, 2, 3, 0),
-        (0, 0, 0, 6),
-        (1, 0, 0, 6),
-        (2, 0, 1, 0),
-        (3, 0, 1, 6),
-        (4294967294, 0, 2147483647, 0),
-        (4294967294, 0, 2147483648, 6),
-        (4294967295, 0, 1, 6),
-        (4294967296, 0, 1, 6),
-        (u64::MAX - 1, 0, 1, 6),
-        (6, 3, 3, 6),
-        (6, 0, 4, 6),
-        (6, 2, 1, 6),
-        (6, 0, 0, 6),
-        (6, u64::MAX, 3, 6),
+    for (length, loop_start, loop_end, in_order) in [
+        (6, 0, 2, true),
+        (6, 2, 2, true),
+        (6, 0, 0, true),
+        (0, 0, 0, false),
+        (1, 0, 0, false),
+        (2, 0, 0, true),
+        (3, 0, 0, false),
+        (4294967294, 0, 2147483646, true),
+        (4294967294, 0, 2147483647, false),
+        (4294967295, 0, 0, false),
+        (4294967296, 0, 0, false),
+        (u64::MAX - 1, 0, 0, false),
+        (6, 0, 3, false),
+        (6, 3, 3, false),
+        (6, 3, 2, false),
+        (6, 1, 0, false),
+        (6, u64::MAX, 2, false),
+        (6, 0, u64::MAX, false),
     ] {
-        for (status, in_order) in [(1, 0), (2, 7), (3, 7)] {
-            let got = changed(|slot| {
-                slot.status = status;
-                slot.record.length = length;
-                slot.record.loop_start = start;
-                slot.record.loop_end = end;
-            });
-            let expected = if number == 0 { in_order } else { 6 };
-            assert_eq!(got, (expected, number), "{length} {start} {end}");
-        }
+        let record = Record {
+            length,
+            loop_start,
+            loop_end,
+            digest: [7; 32],
+        };
+        record_judged(&record, in_order);
+    }
+}
+
+#[test]
+fn loops_at_the_limits_of_the_shortest_and_the_longest_samples() {
+    for (record, allowed) in help::loops() {
+        record_judged(&record, allowed);
     }
 }
 

@@ -9,6 +9,7 @@ mod generated;
 mod help;
 mod hostile_slots;
 mod hostile_states;
+mod loops;
 mod padding;
 mod program;
 mod refusals;

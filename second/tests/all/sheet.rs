@@ -128,7 +128,7 @@ fn lengths() {
         ("02", 1),
         ("99999999999", 1),
     ] {
-        let got = line_judged(&format!("1 {length} 0 1 Z"));
+        let got = line_judged(&format!("1 {length} 0 0 Z"));
         assert_eq!(got, number, "length {length}");
     }
 }
@@ -136,14 +136,17 @@ fn lengths() {
 #[test]
 fn loops() {
     for (bounds, number) in [
+        ("0 0", 0),
         ("0 1", 0),
-        ("0 32", 0),
-        ("31 32", 0),
+        ("0 31", 0),
+        ("30 31", 0),
+        ("31 31", 0),
+        ("0 32", 4),
         ("0 33", 4),
         ("0 64", 4),
         ("32 32", 4),
-        ("0 0", 4),
         ("1 0", 4),
+        ("32 31", 4),
         ("4294967295 1", 4),
         ("0 4294967295", 4),
         ("4294967296 1", 1),
@@ -156,14 +159,29 @@ fn loops() {
 }
 
 #[test]
+fn loops_at_the_limits_of_the_shortest_and_the_longest_samples() {
+    for (record, allowed) in help::loops() {
+        let Record {
+            length,
+            loop_start,
+            loop_end,
+            ..
+        } = record;
+        let line = format!("32 {length} {loop_start} {loop_end} Z");
+        let number = if allowed { 0 } else { 4 };
+        assert_eq!(line_judged(&line), number, "{line}");
+    }
+}
+
+#[test]
 fn within_a_line_form_then_note_then_length_then_loop() {
     for (line, number) in [
-        ("0 3 5 5 Zx", 1),
-        ("0 3 5 05 Z", 1),
-        ("0 3 5 5 Z", 2),
-        ("1 3 5 5 Z", 3),
-        ("1 4 5 5 Z", 4),
-        ("1 4 0 1 Z", 0),
+        ("0 3 2 2 Zx", 1),
+        ("0 3 2 02 Z", 1),
+        ("0 3 2 2 Z", 2),
+        ("1 3 2 2 Z", 3),
+        ("1 4 2 2 Z", 4),
+        ("1 4 1 1 Z", 0),
     ] {
         assert_eq!(line_judged(line), number, "{line}");
     }
@@ -172,7 +190,7 @@ fn within_a_line_form_then_note_then_length_then_loop() {
 #[test]
 fn the_first_bad_line_decides() {
     for (lines, number, line) in [
-        (["RANK 1 2", "1 4 5 5 Z", "x"], 4, 2),
+        (["RANK 1 2", "1 4 2 2 Z", "x"], 4, 2),
         (["RANK 1 2", "1 4 0 1 Z", "x"], 1, 3),
         (["RANK 1 33", "x", "x"], 2, 1),
         (["RANK 1 1", "1 3 0 1 Z", "x"], 3, 2),

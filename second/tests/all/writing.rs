@@ -51,7 +51,7 @@ fn waiting(session: &Session) -> Session {
 
 /// The paper's example, by which note 5 has 64 bytes and note 9 has 6.
 fn example() -> String {
-    help::sheet(&["RANK 1 2", "5 64 0 32 Z", "9 6 0 3 Z"])
+    help::sheet(&["RANK 1 2", "5 64 0 31 Z", "9 6 0 2 Z"])
 }
 
 fn all_notes(record: Record) -> Session {
@@ -67,8 +67,8 @@ const SPOILS: [fn(&mut Slot); 14] = [
     |slot| slot.record.length = 0,
     |slot| slot.record.length += 1,
     |slot| slot.record.length = 4294967295,
-    |slot| slot.record.loop_start = slot.record.loop_end,
-    |slot| slot.record.loop_end = slot.record.length / 2 + 1,
+    |slot| slot.record.loop_start = slot.record.loop_end + 1,
+    |slot| slot.record.loop_end = slot.record.length / 2,
     |slot| slot.state.total = slot.record.length,
     |slot| slot.state.total = u64::MAX,
     |slot| slot.state.tail[0] = 1,
@@ -133,7 +133,7 @@ fn half_loaded_open_and_shut_notes_are_written_as_their_records() {
 fn the_longest_sheet_has_3233_bytes_and_fills_a_buffer_of_so_many() {
     let longest = Record {
         length: 4294967294,
-        loop_start: 2147483645,
+        loop_start: 2147483646,
         loop_end: 2147483646,
         digest: [0xff; 32],
     };
@@ -148,11 +148,11 @@ fn the_longest_sheet_has_3233_bytes_and_fills_a_buffer_of_so_many() {
 #[test]
 fn every_number_and_every_digest_byte_is_written_as_the_reader_wants_it() {
     for (length, loop_start, loop_end) in [
-        (2, 0, 1),
-        (20, 9, 10),
-        (200, 0, 100),
-        (4294967294, 0, 2147483647),
-        (4294967294, 2147483646, 2147483647),
+        (2, 0, 0),
+        (22, 9, 10),
+        (202, 0, 100),
+        (4294967294, 0, 2147483646),
+        (4294967294, 2147483645, 2147483646),
     ] {
         for first in [0, 32, 64, 96, 128, 160, 192, 224] {
             let record = Record {
@@ -189,6 +189,23 @@ fn six_is_a_listed_slot_not_in_order_wherever_it_stands() {
                     let got = written(&session, length);
                     assert_eq!(got, (6, vec![]), "place {place}, spoil {k}");
                 }
+            }
+        }
+    }
+}
+
+#[test]
+fn loops_at_the_limits_are_written_or_six() {
+    for (record, allowed) in help::loops() {
+        let mut session = Session::unlisted();
+        session.list(1, help::record(6, [7; 32]));
+        session.list(32, record);
+        for status in 1..=3 {
+            session.slots[31].status = status;
+            let (number, sheet) = written(&session, 3233);
+            assert_eq!(number, if allowed { 0 } else { 6 }, "{record:?}");
+            if allowed {
+                assert_eq!(read(&sheet), waiting(&session), "{record:?}");
             }
         }
     }
