@@ -9,7 +9,7 @@ use std::path::Path;
 use std::process::ExitCode;
 
 const USE: &str = "use `second vectors DIR FILE...`, `second examples`, `second load DIR`, \
-     `second folders [--slip NAME] COUNT SEED PROGRAM [WORDS..]`, \
+     `second folders [--slip NAME] [--from INDEX] COUNT SEED PROGRAM [WORDS..]`, \
      `second calls [--slip NAME] [--without NAME,..] COUNT SEED PROGRAM [WORDS..]`, \
      `second orders [--slip NAME] COUNT SEED PROGRAM [WORDS..]`, \
      `second print-calls [--without NAME,..] COUNT SEED`, or `second answer-calls`";

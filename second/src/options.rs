@@ -4,7 +4,7 @@ use std::ffi::OsString;
 use std::path::Path;
 use std::process::Command;
 
-/// `[--slip NAME] [--without NAME,..] COUNT SEED PROGRAM [WORDS..]`;
+/// `[--slip NAME] [--without NAME,..] [--from INDEX] COUNT SEED PROGRAM [WORDS..]`;
 /// everything after PROGRAM is the program's own.
 pub struct Options {
     pub count: u64,
@@ -15,6 +15,8 @@ pub struct Options {
     pub slip: Option<String>,
     /// Calls that the program does not have.
     pub without: Vec<String>,
+    /// The first case, so that a run can be made in parts.
+    pub from: u64,
 }
 
 impl Options {
@@ -31,6 +33,7 @@ impl Options {
                     let names = rest.next()?.to_str()?.split(',');
                     options.without.extend(names.map(str::to_string));
                 }
+                Some("--from") => options.from = rest.next()?.to_str()?.parse().ok()?,
                 Some(word) if numbers.len() < 2 => numbers.push(word.parse().ok()?),
                 _ if numbers.len() < 2 => return None,
                 _ => {
@@ -42,6 +45,7 @@ impl Options {
         (options.count, options.seed) = (numbers[0], numbers[1]);
         options.words = rest.cloned().collect();
         // A run that compares nothing must not look like one that is well.
+        options.from.checked_add(options.count)?;
         (options.count > 0).then_some(options)
     }
 
@@ -53,6 +57,15 @@ impl Options {
             words: Vec::new(),
             slip: None,
             without: Vec::new(),
+            from: 0,
+        }
+    }
+
+    /// For a driver whose runs are made in one.
+    pub fn whole(&self) -> Result<(), String> {
+        match self.from {
+            0 => Ok(()),
+            _ => Err("--from is for folders".to_string()),
         }
     }
 

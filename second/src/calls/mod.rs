@@ -33,6 +33,7 @@ const SHOWN: usize = 400;
 /// Compares the calls; whether all is well. A message where nothing could be
 /// compared.
 pub fn run(options: &Options, out: &mut dyn Write) -> Result<bool, String> {
+    options.whole()?;
     let slips = options.chosen(&SLIPS, |slip| slip.name)?;
     let names = slips.iter().map(|slip| slip.name).collect();
     let calls = Calls::new(options.seed, &options.without)?;
@@ -164,6 +165,7 @@ pub fn print(options: &Options, out: &mut dyn Write) -> Result<bool, String> {
     if options.slip.is_some() || !options.words.is_empty() {
         return Err("calls are printed without a slip and without a program".to_string());
     }
+    options.whole()?;
     let calls = Calls::new(options.seed, &options.without)?;
     let mut out = BufWriter::new(out);
     for index in 0..options.count {

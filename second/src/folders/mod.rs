@@ -29,7 +29,7 @@ pub fn run(options: &Options, out: &mut dyn Write) -> Result<bool, String> {
         base: &base,
         report: &mut report,
     };
-    for index in 0..options.count {
+    for index in options.from..options.from + options.count {
         if let Err(error) = trial.folder(index) {
             return Err(format!("folder {index}: {error}"));
         }

@@ -29,6 +29,7 @@ pub fn run(options: &Options, out: &mut dyn Write) -> Result<bool, String> {
     if !options.without.is_empty() {
         return Err("--without is for calls".to_string());
     }
+    options.whole()?;
     let slips = options.chosen(&SLIPS, |slip| slip.name)?;
     let names = slips.iter().map(|slip| slip.name).collect();
     let failed = |error| format!("{}: {error}", options.program.to_string_lossy());

@@ -2,6 +2,7 @@
 //! found, and a program that is wrong, silent or gone is seen.
 
 use crate::help;
+use std::collections::BTreeMap;
 use std::path::Path;
 use std::process::{Command, Output};
 
@@ -225,6 +226,30 @@ fn a_program_ended_by_a_signal_differs_whatever_it_printed() {
     assert_eq!(output.status.code(), Some(1));
 }
 
+/// Two parts of a run are that run: the same kinds, as often.
+#[test]
+fn folders_go_on_from_where_they_are_told() {
+    let folder = help::folder("folders-from");
+    let kinds = |options: &[&str]| {
+        let program = ["3", SECOND, "load", "."];
+        let output = drive(&folder, &[&["folders"], options, &program].concat());
+        assert_eq!(output.status.code(), Some(0));
+        let counted = |field: &str| {
+            let (kind, times) = field.split_once(' ').unwrap();
+            (kind.to_string(), times.parse::<u64>().unwrap())
+        };
+        let last = last_line(&output);
+        let fields = last.split('\t').skip(1).map(counted);
+        fields.collect::<BTreeMap<String, u64>>()
+    };
+    let mut parts = kinds(&["30"]);
+    for (kind, times) in kinds(&["--from", "30", "30"]) {
+        *parts.entry(kind).or_default() += times;
+    }
+    assert_eq!(parts, kinds(&["60"]));
+    assert_ne!(kinds(&["30"]), kinds(&["--from", "30", "30"]));
+}
+
 #[test]
 fn options_of_the_other_driver_are_wrong_use() {
     let folder = help::folder("options-wrong");
@@ -233,6 +258,9 @@ fn options_of_the_other_driver_are_wrong_use() {
         &["orders", "--without", "ask", "5", "3", "true"],
         &["print-calls", "--slip", "all", "5", "3"],
         &["print-calls", "5", "3", "true"],
+        &["calls", "--from", "5", "5", "3", "true"],
+        &["orders", "--from", "5", "5", "3", "true"],
+        &["print-calls", "--from", "5", "5", "3"],
     ] {
         let output = drive(&folder, arguments);
         assert_eq!(output.status.code(), Some(2), "{arguments:?}");
