@@ -50,7 +50,7 @@ static uint32_t deliver(bool in_place, size_t size, size_t n) {
 static uint32_t sheets(bool to_write, size_t notes, size_t n) {
     static uint8_t text[VS_LONGEST_SHEET];
     for (size_t i = 0; i < notes; i++) {
-        session.slots[i] = (vs_slot){{4294967294, 2147483646, 2147483647, {0}}, vs_fresh(), VS_WAITING};
+        session.slots[i] = (vs_slot){{4294967294, 2147483646, 2147483646, {0}}, vs_fresh(), VS_WAITING};
         memcpy(session.slots[i].sample.digest, vs_digest_of(bytes, i).bytes, VS_DIGEST);
     }
     vs_written sheet = vs_sheet_write(&session, text, sizeof text);

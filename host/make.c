@@ -78,8 +78,8 @@ static bool fill_record(unsigned note, const char *name, FILE *f) {
         return WRONG("note %u: %s has %ld bytes, an odd number, and a frame is two\n", note, name, size);
     sample->length = (uint32_t)size;
     if (vs_ask_in_place(&session, note).number != VS_ACCEPTED) /* all else in the slot is in order */
-        return WRONG("note %u: its loop, %u to %u, is not start < end <= %ld, the frames of %s\n", note, sample->loop_start,
-                     sample->loop_end, size / 2, name);
+        return WRONG("note %u: its loop, %u to %u, is not start <= end < %ld: %s has the frames 0 to %ld\n", note, sample->loop_start,
+                     sample->loop_end, size / 2, name, size / 2 - 1);
 
     vs_hash state = vs_fresh();
     size_t n;
@@ -142,7 +142,7 @@ static void tell_left_out(void) {
 
 static bool make_sheet(int argc, char **argv) {
     if (argc < 3)
-        return WRONG("a folder, and a loop for each note: FOLDER NOTE:START:END ..\n");
+        return WRONG("a folder, and a loop for each note, its first and last frame: FOLDER NOTE:START:END ..\n");
     if (!list_notes(argv + 2))
         return false;
     if (chdir(argv[1]) != 0)

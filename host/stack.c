@@ -193,7 +193,7 @@ static void write_sheet(void) {
     for (int n = 1; n <= VS_NOTES; n++) {
         message_length = LENGTH - (size_t)n % 2;
         try(digest_of);
-        text_length += (size_t)snprintf(text + text_length, sizeof text - text_length, "%d\t%d\t0\t%d\t", n, LENGTH, LENGTH / 2);
+        text_length += (size_t)snprintf(text + text_length, sizeof text - text_length, "%d\t%d\t0\t%d\t", n, LENGTH, LENGTH / 2 - 1);
         for (int i = 0; i < VS_DIGEST; i++)
             text_length += (size_t)snprintf(text + text_length, sizeof text - text_length, "%02x", digest[i]);
         text[text_length++] = '\n';
@@ -230,7 +230,7 @@ static void on_sheets_to_write(void) {
         vs_slot *slot = &session.slots[n];
         slot->sample.length = n % 2 ? 2 : 4294967294;
         slot->sample.loop_start = n % 2 ? 0 : 2147483646;
-        slot->sample.loop_end = n % 2 ? 1 : 2147483647;
+        slot->sample.loop_end = n % 2 ? 0 : 2147483646;
         measure(fresh);
         slot->state = state;
         slot->status = VS_WAITING;

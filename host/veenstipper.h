@@ -22,10 +22,15 @@
  *
  * States and sessions are plain values: copy them and store them. Compare them field by field, since the padding between fields is free. A
  * session of all zero bytes lists no note. A stored state is in order when total is at most 2^61 - 1 and the tail bytes behind the first
- * total % 64 are zero; a stored slot is in order when its length is even, 2 to 4294967294, its loop obeys loop_start < loop_end <= length / 2,
+ * total % 64 are zero; a stored slot is in order when its length is even, 2 to 4294967294, its loop obeys loop_start <= loop_end < length / 2,
  * and its state is in order with total below length (waiting) or the fresh one (open, shut). What is not in order is refused (6, 9), never used.
  * What is in order is believed, an open slot too: what a status says holds of sessions that only these functions wrote. A slot is listed
  * unless its status is VS_NONE, whatever else it holds; a status above VS_SHUT is listed, and not in order.
+ *
+ * loop_end is the last frame that sounds. Frame f is bytes 2f and 2f + 1 of a sample, and of a note for which a status other than VS_NONE is
+ * answered every frame from loop_start to loop_end lies inside the sample: the loop's last byte is 2 * loop_end + 1, below length. By the rule
+ * of before the end was the frame after the last: lower each end of such a sheet by one (README.md, "Sheets from before"), and throw away every
+ * session that was stored under it.
  *
  * A host that has samples and no sheet fills the slots itself, in a session of zeros: a record (its digest by vs_digest_of, or piece
  * by piece by vs_update_in_place and vs_finish), the state that vs_fresh gives, VS_WAITING.
@@ -130,7 +135,7 @@ typedef struct {
     size_t length;
 } vs_place;
 
-/* What a sheet's line says of a note: length in bytes, loop in frames of two bytes. */
+/* What a sheet's line says of a note: length in bytes; the loop's first and last frame, of two bytes each, counted from 0. */
 typedef struct {
     uint32_t length, loop_start, loop_end;
     uint8_t digest[VS_DIGEST];
