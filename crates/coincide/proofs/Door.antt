@@ -1,5 +1,7 @@
 -- `door`: any two results that meet a contract coincide. Assumes nothing.
 use mathlib.Core.Path.{_≡_, refl, sym, ap, _∙_}
+use mathlib.Core.Bool.{true}
+use mathlib.Core.Logic.{_↔_}
 use Prim.Native.Nat.{ℕ}
 use mathlib.Core.List.{List}
 use denote.Ref.{now}
@@ -10,11 +12,16 @@ use Rattle.session.specs.declared.Delivered.{Delivered}
 use Rattle.session.specs.Promises.{AskRow, Row as DeliveryRow}
 use Rattle.session.proofs.Proved.{proved as session}
 use Rattle.slots.specs.declared.Answer.{Answer}
+use Rattle.sheet.specs.declared.Sheet.{Sheet}
 use Rattle.writing.proofs.Proved.{proved as writing}
+use Rattle.coincide.proofs.Tells.{tells}
+use Rattle.coincide.proofs.Session.{lit-means}
+use Rattle.coincide.proofs.Reading.{SheetRow, reads}
 use Rattle.coincide.specs.Coincide.{Coincide, CoincideAt, Means, Says}
 use Rattle.door.proofs.vs_update_in_place as vs-update-in-place′
 use Rattle.door.proofs.vs_deliver_in_place as vs-deliver-in-place′
 use Rattle.door.proofs.vs_ask_in_place as vs-ask-in-place′
+use Rattle.door.proofs.vs_ready as vs-ready′
 use Rattle.door.proofs.vs_sheet_read_in_place as vs-sheet-read-in-place′
 use Rattle.door.proofs.vs_sheet_write as vs-sheet-write′
 use Rattle.door.proofs.vs_fold as vs-fold′
@@ -50,6 +57,16 @@ vs-ask-in-place-says = record { claim = _; stated = λ M 𝓤 H A mem run κs a 
 
 pub vs-ask-in-place : Coincide vs-ask-in-place′.ended (vs-ask-in-place-says .claim)
 vs-ask-in-place κs a x y e f p q = p ∙ sym q
+
+abbrev pub vs-ready-says : Says vs-ready′.ended (λ M. vs-ready′.clauses {M = M})
+vs-ready-says = record { claim = _; stated = λ M 𝓤 H A mem run κs a g r e. refl }
+
+pub vs-ready : Coincide vs-ready′.ended (vs-ready-says .claim)
+vs-ready κs a x y e f p q = p ∙ sym q
+
+-- what meets the contract is that this session's counts are equal and not zero
+pub vs-ready-means : Means vs-ready′.ended (vs-ready-says .claim) (λ κs a r e. (r ≡ true) ↔ ((now (a .0) .listed ≡ now (a .0) .opened) × (now (a .0) .opened ≡ 0 → ⊥)))
+vs-ready-means κs a r e = tells _ r (lit-means (now (a .0)))
 
 abbrev pub vs-sheet-read-in-place-says : Says vs-sheet-read-in-place′.ended (λ M. vs-sheet-read-in-place′.clauses {M = M})
 vs-sheet-read-in-place-says = record { claim = _; stated = λ M 𝓤 H A mem run κs a g r e. refl }
@@ -87,6 +104,17 @@ vs-deliver-in-place-rows κs a r e =
       λ p. rows .0 (joined _ r (now (e .0)) (p .0) (p .1)),
       λ row. (ap (λ (d : Delivered). d .answer) (rows .1 row), ap (λ (d : Delivered). d .session) (rows .1 row)),
     )
+
+-- and so of reading a sheet: this text, and the session that is left, whatever it was before
+pub vs-sheet-read-rows : Means vs-sheet-read′.ended vs-sheet-read′.Reads.Post (λ κs a r e. SheetRow (now (a .0)) (r .verdict) (r .session))
+vs-sheet-read-rows κs a r e =
+    let rows = reads (now (a .0)) (r .verdict) (r .session) in (
+      λ p. rows .0 (ap (λ (x : Sheet). x .verdict) p, ap (λ (x : Sheet). x .session) p),
+      λ row. let (v, s) = rows .1 row in λ i. record { verdict = v i; session = s i },
+    )
+
+pub vs-sheet-read-in-place-rows : Means vs-sheet-read-in-place′.ended (vs-sheet-read-in-place-says .claim) (λ κs a r e. SheetRow (now (a .1 .0)) r (now (e .0)))
+vs-sheet-read-in-place-rows κs a r e = reads (now (a .1 .0)) r (now (e .0))
 
 pub vs-fold : Coincide vs-fold′.ended vs-fold′.Reads.Post
 vs-fold κs a x y e f p q = p ∙ sym q

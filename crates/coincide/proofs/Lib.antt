@@ -23,5 +23,6 @@ pub mod HashInPlace
 pub mod SessionInPlace
 pub mod Writing
 pub mod Writer
+pub mod Reading
 pub mod Door
 pub mod Lent

@@ -5,6 +5,7 @@ use Rattle.session.specs.declared.Session.{Session}
 use Rattle.coincide.specs.Coincide.{Coincide, CoincideAt, Says}
 use Rattle.session_in_place.proofs.deliver as deliver′
 use Rattle.session_in_place.proofs.ask as ask′
+use Rattle.session_in_place.proofs.ready as ready′
 use Rattle.session_in_place.proofs.list_none as list-none′
 use Rattle.session_in_place.proofs.read_into as read-into′
 
@@ -19,6 +20,12 @@ ask-says = record { claim = _; stated = λ M 𝓤 H A mem run κs a g r e. refl 
 
 pub ask : Coincide ask′.ended (ask-says .claim)
 ask κs a x y e f p q = p ∙ sym q
+
+abbrev pub ready-says : Says ready′.ended (λ M. ready′.clauses {M = M})
+ready-says = record { claim = _; stated = λ M 𝓤 H A mem run κs a g r e. refl }
+
+pub ready : Coincide ready′.ended (ready-says .claim)
+ready κs a x y e f p q = p ∙ sym q
 
 abbrev pub list-none-says : Says list-none′.ended (λ M. list-none′.clauses {M = M})
 list-none-says = record { claim = _; stated = λ M 𝓤 H A mem run κs a g r e. refl }

@@ -1,6 +1,6 @@
 -- A function that passes its parameters on to another, and answers what that answers: whatever the other promises, it promises. Nothing is lent again: each reference is given to the callee for good.
 --     Storable         what is promised of a result says that it may be laid in a local
---     hands-two, lends-one, lends-two, lends-bytes      the call at given values, by the shape of the code: two parameters as they are; a `&mut` and one more; a `&mut` and two more; one and a `&mut [u8]`
+--     hands-one, hands-two, lends-one, lends-two, lends-bytes      the call at given values, by the shape of the code: one parameter as it is, or two; a `&mut` and one more; a `&mut` and two more; one and a `&mut [u8]`
 --     passes-on        so the function meets the contract of the one that it calls, at any `ensures` that the callee's gives
 -- Assumes `Given`; `passes-on` assumes nothing.
 use mathlib.Core.Path.{_≡_, refl, sym, subst}
@@ -48,6 +48,14 @@ module _ {M : Type 1} {𝓤 : URA M} {H : Heap 𝓤} {A : Atoms 𝓤} {K : Type 
   answers : K → FmC 𝓤 H (W .laws) C → (τ₀ : Ty) → Storable 𝓤 H (τ₀ ∷ []) Q → {vs : List Val} {Γ : List (Item 𝓤)} {E : Env 𝓤 H} {xs : List Operand} {d : Place} {q : Post 𝓤 H} → Opds K W (raw (C f vs Q) ∷ Γ) E xs vs
       → ((u : Val) → Fits τ₀ u → Seq K W (raw (Q u) ∷ Γ) (lands C Λ E d u return q)) → Seq K W (raw (C f vs Q) ∷ Γ) (runs C Λ E (seq (call f xs d) return) q)
   answers t fm τ₀ st {vs} os k = calls-from t fm (raw (C f vs Q)) vs Q (id⊢ 𝓤 _) os (λ u. use1 W (later (given (Typed (τ₀ ∷ []) (u ∷ [])) (raw (Q u)))) (st u) $ await t tt $ learn t (λ p. k u (p .0)))
+
+  module _ {h₀ h₁ : Home} {τ₀ τ₁ : Ty} where
+    pub hands-one : K → FmC 𝓤 H (W .laws) C → Storable 𝓤 H (τ₀ ∷ []) Q → {v : Val} → Fits τ₁ v
+        → Seq K W (raw (C f (v ∷ []) Q) ∷ []) (allocs (local τ₀ h₀ ∷ local τ₁ h₁ ∷ []) (λ E. params′ E (v ∷ []) (runs C Λ E (seq (call f (copy (place 1 []) ∷ []) (place 0 [])) return) (atRet E Q))))
+    hands-one t fm st p₁ =
+        alloc1 t (λ l₀. alloc1 t (λ l₁. alloc0 t $ params1 t $ pass1 t (init t 0 refl p₁) $ pass0 t $ move t (4 ∷ []) $
+        answers t fm τ₀ st (and-then t (load t (from t (stop t)) (look t 1 refl)) (no-more t)) (λ u p₀.
+        land t (from t (stop t)) (init t 3 refl p₀) $ returns t (look t 3 refl) $ gone t 3 refl refl $ gone t 1 refl refl $ free0 t $ done t)))
 
   module _ {h₀ h₁ h₂ : Home} {τ₀ τ₁ τ₂ : Ty} where
     pub hands-two : K → FmC 𝓤 H (W .laws) C → Storable 𝓤 H (τ₀ ∷ []) Q → {v w : Val} → Fits τ₁ v → Fits τ₂ w

@@ -1,6 +1,7 @@
 // The calls that work in place, on a state or a session that the host lends.
 ghost use mathlib.Core.Path.{_≡_};
 ghost use Rattle.hash.specs.Update.{update as updated};
+ghost use Rattle.session.specs.Light.{ready as lit};
 ghost use Rattle.session.specs.Operations.{deliver as delivered, ask as asked};
 ghost use lib.ListN.{length};
 ghost use Rattle.sheet.specs.Judging.{sheetOf};
@@ -35,6 +36,14 @@ pub extern "C" fn vs_ask_in_place(session: &Session, note: u64) -> Answer
     ensures { λ r. ⌜ r ≡ asked (now (session .entry)) note ⌝ }
 {
     session_in_place::ask(session, note)
+}
+
+// The rank-ready light of a lent session.
+#[no_mangle]
+pub extern "C" fn vs_ready(session: &Session) -> bool
+    ensures { λ r. ⌜ r ≡ lit (now (session .entry)) ⌝ }
+{
+    session_in_place::ready(session)
 }
 
 // A rank sheet, read into a lent session.

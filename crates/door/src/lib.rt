@@ -4,6 +4,7 @@ mod in_place;
 
 pub use in_place::vs_ask_in_place;
 pub use in_place::vs_deliver_in_place;
+pub use in_place::vs_ready;
 pub use in_place::vs_sheet_read_in_place;
 pub use in_place::vs_sheet_write;
 pub use in_place::vs_update_in_place;

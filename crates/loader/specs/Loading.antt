@@ -6,7 +6,8 @@ use mathlib.Core.List.{List}
 use lib.ListN.{length}
 use Rattle.refusal.specs.Table.{accepted}
 use Rattle.slots.specs.declared.Slot.{Slot}
-use Rattle.session.specs.Sessions.{putSlot}
+use Rattle.session.specs.Sessions.{slotOf}
+use Rattle.session.specs.Light.{putCounted}
 use Rattle.session.specs.Operations.{deliver, ask}
 use Rattle.session.specs.declared.Session.{Session}
 use Rattle.sheet.specs.Judging.{sheetOf}
@@ -44,9 +45,9 @@ pub data LoadedTo (s : Session) : (n : ℕ) → Session → Type 0 where
 abbrev pub Loaded : Session → Session → Type 0
 Loaded s t = LoadedTo s 32 t
 
--- something that goes from one session to another, done to a note's slot: whatever session the slot stands in
+-- something that goes from one session to another, done to a note's slot: whatever session the slot stands in. The open count goes with it
 abbrev pub OfSlot : (Session → Session → Type 0) → (note : ℕ) → Slot → Slot → Type 0
-OfSlot goes note slot after = (s : Session) → length (s .slots) ≡ 32 → goes (putSlot s note slot) (putSlot s note after)
+OfSlot goes note slot after = (s : Session) → length (s .slots) ≡ 32 → slotOf s note ≡ slot → goes s (putCounted s note after)
 
 -- "It reads `rank.txt` (first 4,096 bytes)": the sheet of some text of at most so many
 pub record SheetRead (sheet : Sheet) : Type 0 where

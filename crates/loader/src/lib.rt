@@ -69,6 +69,7 @@ fn load_all(folder: &[u8], mut session: Session) -> Session
         let slot = session.slots[index];
         let after = load(folder, note, slot);
         session.slots[index] = after;
+        session.opened = session::open_after(session.opened, slot.status, after.status);
         done = note;
     }
     session

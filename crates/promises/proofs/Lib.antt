@@ -7,4 +7,6 @@ pub mod Accepted
 pub mod Unlisted
 pub mod Demand3
 pub mod Loops
+pub mod Counting
+pub mod Light
 pub mod Proved

@@ -84,9 +84,10 @@ set-keeps (x ∷ l) zero (suc j) slot none e = refl
 set-keeps (x ∷ l) (suc i) zero slot none e = refl
 set-keeps (x ∷ l) (suc i) (suc j) slot none e = set-keeps l i j slot none e
 
-put-keeps : (s : Session) (m n : ℕ) (slot : Slot) → slot .sample ≡ slotOf s m .sample → slotOf (putSlot s m slot) n .sample ≡ slotOf s n .sample
+put-keeps : (s : Session) (m n listed opened : ℕ) (slot : Slot) → slot .sample ≡ slotOf s m .sample
+    → slotOf (record { slots = putSlot s m slot .slots; listed = listed; opened = opened }) n .sample ≡ slotOf s n .sample
 unfolding slotOf putSlot
-put-keeps s m n slot e = set-keeps (s .slots) (slotIndex m) (slotIndex n) slot emptySlot e
+put-keeps s m n listed opened slot e = set-keeps (s .slots) (slotIndex m) (slotIndex n) slot emptySlot e
 
 module _ (s : Session) (note : ℕ) where
   asked-ordered : (a : Answer) → AskRow s note a → (a .status ≡ none → ⊥) → slotInOrder (slotOf s note) ≡ true
@@ -109,7 +110,7 @@ module _ (s : Session) (note : ℕ) where
     delivered-keeps d n (row7 w) = refl
     delivered-keeps d n (row8 w past) = refl
     delivered-keeps d n (row0 w fits) =
-        put-keeps s note n (withPiece (slotOf s note) piece) (slots .outcome (slotOf s note) piece (w .in-order) (w .waiting) fits .keeps)
+        put-keeps s note n _ _ (withPiece (slotOf s note) piece) (slots .outcome (slotOf s note) piece (w .in-order) (w .waiting) fits .keeps)
 
     row : Row s note piece (deliver s note piece)
     row = session .table s note piece (deliver s note piece) .0 refl

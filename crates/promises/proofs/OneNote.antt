@@ -6,9 +6,8 @@ use Prim.Native.Nat.{ℕ, zero, suc, _<_, _≤_}
 use native.Mathlib.Omega.{arith}
 use native.Mathlib.Decide.{decLt}
 use lib.Dec.{eqb}
-use lib.ListN.{length, getD, List·getD-eq-default, length-set}
-use lib.Seq.{getD-set-same, getD-set-other, ext-getD}
-use borrow.Author.Tests.{eqb-true, eqb-false}
+use lib.ListN.{length, getD, List·getD-eq-default}
+use lib.Seq.{getD-set-same, getD-set-other}
 use Rattle.refusal.specs.Table.{unlisted}
 use Rattle.truth.proofs.Tests.{second}
 use Rattle.slots.specs.Slots.{none, emptySlot}
@@ -16,6 +15,7 @@ use Rattle.rules.specs.Rules.{isNote}
 use Rattle.rules.proofs.Rules.{is-note-is}
 use Rattle.slots.specs.Delivery.{bareRefusal, isListed, onSlot, askAt}
 use Rattle.session.specs.Sessions.{slotIndex, slotOf, putSlot}
+use Rattle.session.specs.Light.{putCounted}
 use Rattle.session.specs.Operations.{onNote, ask}
 use Rattle.slots.specs.declared.Slot.{Slot}
 use Rattle.slots.specs.declared.Step.{Step}
@@ -26,7 +26,7 @@ use Rattle.session.specs.Promises.{Unlisted}
 use Rattle.slots.proofs.Listed.{listed-note, no-note}
 use Rattle.session.proofs.Listed.{unlisted-is}
 use Rattle.slots.proofs.Listed.{at-listed, at-unlisted, ask-at-unlisted}
-use Rattle.session.proofs.Putting.{index-of-note, on-listed, on-unlisted}
+use Rattle.session.proofs.Putting.{index-of-note, put-unchanged, on-listed, on-unlisted}
 
 -- a note's slot; note 0 has an empty one
 pub view : Session → ℕ → Slot
@@ -71,7 +71,7 @@ module _ (s : Session) (f : Slot → Step) where
         ]
 
     done : onNote s (suc i) f
-        ≡ record { answer = f (view s (suc i)) .answer; session = putSlot s (suc i) (f (view s (suc i)) .slot) }
+        ≡ record { answer = f (view s (suc i)) .answer; session = putCounted s (suc i) (f (view s (suc i)) .slot) }
     done =
         let is = listed-note (view s (suc i)) (suc i) h in
         on-listed s (suc i) f (isListed-view s (suc i) ∙ h) ∙ rw (slotOf-view s (suc i) is)
@@ -80,12 +80,12 @@ module _ (s : Session) (f : Slot → Step) where
     index : slotIndex (suc i) ≡ i
     index = index-of-note (suc i) (listed-note (view s (suc i)) (suc i) h) ∙ omega arith
 
-    view-own : (slot : Slot) → view (putSlot s (suc i) slot) (suc i) ≡ slot
-    unfolding view putSlot
+    view-own : (slot : Slot) → view (putCounted s (suc i) slot) (suc i) ≡ slot
+    unfolding view putCounted putSlot
     view-own slot = rw index (getD-set-same (s .slots) i slot emptySlot placed)
 
-    view-other : (slot : Slot) (j : ℕ) → (j ≡ i → ⊥) → view (putSlot s (suc i) slot) (suc j) ≡ view s (suc j)
-    unfolding view putSlot
+    view-other : (slot : Slot) (j : ℕ) → (j ≡ i → ⊥) → view (putCounted s (suc i) slot) (suc j) ≡ view s (suc j)
+    unfolding view putCounted putSlot
     view-other slot j d = rw index (getD-set-other (s .slots) i j slot emptySlot d)
 
 -- what an operation answers, and what becomes of its own slot, by that slot alone
@@ -117,11 +117,6 @@ other-by s (suc i) f true h (suc j) d = rw (done s f i h) (view-other s f i h _ 
 pub other : (s : Session) (note : ℕ) (f : Slot → Step) (m : ℕ) → m ≢ note → view (onNote s note f .session) m ≡ view s m
 other s note f = other-by s note f _ refl
 
--- and there are as many
-pub length-same : (s : Session) (note : ℕ) (f : Slot → Step) → length (onNote s note f .session .slots) ≡ length (s .slots)
-unfolding onNote putSlot
-length-same s note f = length-set (s .slots) (slotIndex note) _
-
 -- asking goes by that slot too
 pub asks : (s : Session) (note : ℕ) → ask s note ≡ askAt (view s note) note
 unfolding ask
@@ -131,18 +126,14 @@ asks s note = go (isNote note) refl
     go true h = rw (slotOf-view s note h)
     go false h = ask-at-unlisted (slotOf s note) note (no-note (slotOf s note) note h) ∙ sym (ask-at-unlisted (view s note) note (no-note (view s note) note h))
 
--- sessions are equal slot by slot
-pub by-slots : (s t : Session) → length (s .slots) ≡ length (t .slots) → ((note : ℕ) → view s note ≡ view t note) → s ≡ t
-unfolding view
-by-slots s t h e = λ i. record { slots = ext-getD emptySlot (s .slots) (t .slots) h (λ k _. e (suc k)) i }
-
 -- an operation that leaves its slot as it was leaves the session as it was
 pub unchanged : (s : Session) (note : ℕ) (f : Slot → Step) → onSlot (view s note) note f .slot ≡ view s note → onNote s note f .session ≡ s
-unchanged s note f h = by-slots _ _ (length-same s note f) (λ m. go m (eqb m note) refl)
+unfolding onNote
+unchanged s note f h = go (isNote note) refl
   where
-    go : (m : ℕ) (b : Bool) → eqb m note ≡ b → view (onNote s note f .session) m ≡ view s m
-    go m true e = rw (eqb-true m note e) (own s note f .1 ∙ h)
-    go m false e = other s note f m (eqb-false m note e)
+    go : (b : Bool) → isNote note ≡ b → onNote s note f .session ≡ s
+    go true is = rw (slotOf-view s note is, h, ← slotOf-view s note is) (put-unchanged s note)
+    go false is-none = ap (λ (d : Delivered). d .session) (on-unlisted s note f (no-note (slotOf s note) note is-none))
 
 -- answers and sessions, put together
 pub parts : {a a′ : Answer} {s s′ : Session} → a ≡ a′ → s ≡ s′ → _≡_ {A = Delivered} (record { answer = a; session = s }) (record { answer = a′; session = s′ })

@@ -4,6 +4,7 @@ use Rattle.promises.proofs.Examples.{examples-hold}
 use Rattle.promises.proofs.Demand3.{demand3}
 use Rattle.promises.proofs.Reordering.{reordering}
 use Rattle.promises.proofs.Loops.{loops}
+use Rattle.promises.proofs.Light.{light}
 
 pub proved : Promises
-proved = record { small-examples = examples-hold; demand3 = demand3; reordering = reordering; loops = loops }
+proved = record { small-examples = examples-hold; demand3 = demand3; reordering = reordering; loops = loops; light = light }

@@ -3,4 +3,5 @@ pub mod Sequences
 pub mod Demand3
 pub mod Reordering
 pub mod Loops
+pub mod Light
 pub mod Promises

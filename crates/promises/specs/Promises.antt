@@ -3,6 +3,7 @@ use Rattle.promises.specs.Examples.{Hold, examples}
 use Rattle.promises.specs.Demand3.{Demand3}
 use Rattle.promises.specs.Reordering.{Reordering}
 use Rattle.promises.specs.Loops.{Loops}
+use Rattle.promises.specs.Light.{Light}
 
 pub record Promises : Type 0 where
   -- "Marked P are proved about the definitions, gathered in one list under a single theorem"
@@ -13,3 +14,5 @@ pub record Promises : Type 0 where
   pub reordering : Reordering
   -- 2/13: no loop leaves its sample
   pub loops : Loops
+  -- 3/13: the rank-ready light
+  pub light : Light

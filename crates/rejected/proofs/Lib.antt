@@ -1,4 +1,5 @@
 pub mod Example
 pub mod Digests
 pub mod Loops
+pub mod Light
 pub mod Proved

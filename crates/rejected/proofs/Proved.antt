@@ -28,6 +28,7 @@ use Rattle.rejected.specs.Promises.{Promises}
 use Rattle.rejected.proofs.Example.{is-sheet, printed-refused, lists, fresh-in-order, nothing-yet, asked, obeys5, obeys9, waits5}
 use Rattle.rejected.proofs.Digests.{no-constant, no-idle, no-first-only}
 use Rattle.rejected.proofs.Loops.{old-beyond, no-other, lowered-is}
+use Rattle.rejected.proofs.Light.{two, fitting, fitting-obeys, no-other-light, turns-dark, one-one, goes-dark-then}
 
 no-sheets : (reading : List ℕ → Sheet) → RefusesSheets reading → AcceptsOf reading → ⊥
 no-sheets reading never accepts = never text (accepts text .1 (notes, is-sheet))
@@ -48,17 +49,6 @@ no-pieces : (delivering : Session → (note : ℕ) (piece : List ℕ) → Delive
 no-pieces delivering never takes =
     let s = sheetOf text .session in
     never s 5 (zeros 0) (takes s 5 (zeros 0) .1 (session .takes s 5 (zeros 0) .0 (bytes-taken 0 (omega arith))))
-
--- a slot whose digest is what final answers, two bytes before its end
-abbrev two : List ℕ
-two = 0 ∷ 0 ∷ []
-
-fitting : Record
-fitting = record { length = 2; «loop_start» = 0; «loop_end» = 0; digest = finish (update fresh two .state) .bytes }
-
-fitting-obeys : Obeyed fitting
-unfolding fitting
-fitting-obeys = record { even = refl; at-least = omega arith; at-most = omega arith; forward = omega arith; within = omega arith }
 
 never-shut : (putting : Slot → List ℕ → Slot) → AlwaysShut putting → OutcomeOf putting → ⊥
 unfolding fitting fresh
@@ -101,4 +91,7 @@ proved =
       old-loops = old-beyond;
       other-loops = no-other;
       lowered = lowered-is;
+      other-lights = λ light listed opened within most. no-other-light listed opened within most light;
+      one-and-one = (one-one, 1, two, goes-dark-then);
+      goes-dark = turns-dark;
     }

@@ -1,9 +1,10 @@
 -- "These must be rejected" (document 01, "How tight the promises are"): each wrong program breaks the promise that 01 names for it. And
--- 2/13: any other rule for loops allows one that plays a frame outside its sample, or no frame, or refuses one that keeps inside.
+-- 2/13: any other rule for loops allows one that plays a frame outside its sample, or no frame, or refuses one that keeps inside. And 3/13:
+-- no other answer from the two counts is the walk's.
 use Prim.Native.Nat.{ℕ, _+_, _/_, _≤_, _<_}
 use mathlib.Core.Path.{_≡_}
 use mathlib.Core.List.{List}
-use mathlib.Core.Bool.{Bool, true}
+use mathlib.Core.Bool.{Bool, true, false}
 use Rattle.rules.specs.Rules.{loopRule}
 use Rattle.rules.specs.Promises.{FrameInside, PlaysOf}
 use Rattle.hash.specs.Promises.{AnyCuttingOf}
@@ -13,17 +14,27 @@ use Rattle.hash.specs.declared.Digest.{Digest}
 use Rattle.slots.specs.Promises.{OutcomeOf}
 use Rattle.slots.specs.declared.Slot.{Slot}
 use Rattle.session.specs.Sessions.{slotOf}
-use Rattle.session.specs.Operations.{ask}
-use Rattle.session.specs.Promises.{TakesOf, CountedOf}
+use Rattle.session.specs.Light.{allOpen, ready}
+use Rattle.session.specs.Operations.{deliver, ask}
+use Rattle.session.specs.Promises.{Waits, Opening, TakesOf, CountedOf}
 use Rattle.session.specs.declared.Session.{Session}
 use Rattle.session.specs.declared.Delivered.{Delivered}
 use Rattle.sheet.specs.Judging.{sheetOf}
 use Rattle.sheet.specs.declared.Sheet.{Sheet}
 use Rattle.sheet_promises.specs.Grammar.{IsSheet}
 use Rattle.sheet_promises.specs.Promises.{AcceptsOf, Lists}
+use Rattle.promises.specs.Light.{WalksOf}
 use Rattle.rejected.specs.Example.{text, printedText, notes}
 use Rattle.rejected.specs.Wrong.{RefusesSheets, RefusesPieces, constant, AlwaysShut, doesNothing, firstPieceOnly, invents}
 use Rattle.rejected.specs.Wrong.{oldLoopRule}
+
+-- 3/13: a session from which a delivery turns a yes into a no
+pub record GoesDark (s : Session) (note : ℕ) (piece : List ℕ) : Type 0 where
+  pub listed : s .listed ≡ 1
+  pub opened : s .opened ≡ 1
+  pub waits : Waits s note
+  pub lit : ready s ≡ true
+  pub dark : ready (deliver s note piece .session) ≡ false
 
 pub record Promises : Type 0 where
   -- the three-line sheet of document 01, with 2/13's loops, is a sheet, is accepted, and lists 5 and 9
@@ -57,3 +68,15 @@ pub record Promises : Type 0 where
       → PlaysOf rule → ⊥
   -- an old loop, its end lowered by one to its last frame, is allowed exactly where it was
   pub lowered : (bytes start last : ℕ) → loopRule bytes start last ≡ oldLoopRule bytes start (last + 1)
+  -- 3/13: an answer from the two counts that anywhere differs from "yes exactly when they are equal and not zero" is not the walk's: always
+  -- yes, always no, yes of 0 and 0, from one of them alone
+  pub other-lights :
+      (light : (listed opened : ℕ) → Bool) (listed opened : ℕ) → opened ≤ listed → listed ≤ 32
+      → (light listed opened ≡ allOpen listed opened → ⊥)
+      → WalksOf (λ s. light (s .listed) (s .opened)) → ⊥
+  -- "no later delivery turns a yes into a no" holds from an accepted sheet, and not from whatever counts are stored: with 1 and 1 and a
+  -- note waiting, the delivery that opens it does so; and any that opens one, below 32
+  pub one-and-one : (s : Session) × (note : ℕ) × (piece : List ℕ) × GoesDark s note piece
+  pub goes-dark :
+      (s : Session) (note : ℕ) (piece : List ℕ) → ready s ≡ true → s .opened < 32 → Opening s note piece
+      → ready (deliver s note piece .session) ≡ false

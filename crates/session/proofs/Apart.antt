@@ -6,23 +6,30 @@ use Rattle.rules.specs.Rules.{isNote}
 use Rattle.rules.proofs.Rules.{is-note-is}
 use Rattle.slots.specs.Delivery.{isListed}
 use Rattle.session.specs.Sessions.{slotOf}
+use Rattle.session.specs.Light.{putCounted}
 use Rattle.session.specs.Operations.{onNote}
 use Rattle.session.specs.Promises.{Apart}
 use Rattle.slots.specs.declared.Slot.{Slot}
 use Rattle.session.specs.declared.Session.{Session}
 use Rattle.slots.specs.declared.Step.{Step}
 use Rattle.slots.proofs.Listed.{listed-note, no-note}
-use Rattle.session.proofs.Putting.{indices-differ, put-other, put-both, on-listed, on-unlisted}
+use Rattle.session.proofs.Putting.{indices-differ, counted-other, put-both, on-listed, on-unlisted}
 
 -- an operation answers by its own slot
 pub own-slot : (s t : Session) (note : ℕ) (f : Slot → Step) → slotOf s note ≡ slotOf t note → onNote s note f .answer ≡ onNote t note f .answer
 unfolding onNote
 own-slot s t note f e = rw e
 
+-- and its open count goes by that slot and by the count
+pub own-count : (s t : Session) (note : ℕ) (f : Slot → Step) → slotOf s note ≡ slotOf t note → s .opened ≡ t .opened
+    → onNote s note f .session .opened ≡ onNote t note f .session .opened
+unfolding onNote putCounted
+own-count s t note f e c = rw (e, c)
+
 module _ (s : Session) (m n : ℕ) (f : Slot → Step) (ne : m ≡ n → ⊥) where
   -- a slot of another note is as it was, and as listed as it was
   other-slot : (l : Bool) → isListed (slotOf s m) m ≡ l → isNote n ≡ true → slotOf (onNote s m f .session) n ≡ slotOf s n
-  other-slot true h k = rw (on-listed s m f h) (put-other s m n _ (indices-differ n m (λ e. ne (sym e)) k (listed-note (slotOf s m) m h)))
+  other-slot true h k = rw (on-listed s m f h) (counted-other s m n _ (indices-differ n m (λ e. ne (sym e)) k (listed-note (slotOf s m) m h)))
   other-slot false h k = rw (on-unlisted s m f h)
 
   pub other-kept : isNote n ≡ true → slotOf (onNote s m f .session) n ≡ slotOf s n

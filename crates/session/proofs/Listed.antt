@@ -26,7 +26,7 @@ module _ (s : Session) (note : ℕ) where
   listed-is = (listed-then, listed-test)
 
   -- what is listed is not unlisted
-  never-both : Listed s note → Unlisted s note → ⊥
+  pub never-both : Listed s note → Unlisted s note → ⊥
   never-both (low, high, status) (inl e) = omega arith
   never-both (low, high, status) (inr (inl e)) = omega arith
   never-both (low, high, status) (inr (inr e)) = status e

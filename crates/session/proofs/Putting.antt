@@ -14,9 +14,11 @@ use Rattle.slots.proofs.Listed.{at-listed, at-unlisted}
 use Rattle.slots.specs.declared.Slot.{Slot}
 use Rattle.slots.specs.declared.Step.{Step}
 use Rattle.session.specs.Sessions.{slotIndex, slotOf, putSlot}
+use Rattle.session.specs.Light.{openAfter, putCounted}
 use Rattle.session.specs.Operations.{onNote, ask}
 use Rattle.session.specs.declared.Session.{Session}
 use Rattle.session.proofs.Lists.{getD-within}
+use Rattle.session.proofs.Light.{count-same, counts-commute}
 
 pub index-of-note : (note : ℕ) → isNote note ≡ true → slotIndex note ≡ note - 1
 unfolding slotIndex
@@ -59,21 +61,39 @@ put-other s m n slot differ = getD-set-other (s .slots) (slotIndex m) (slotIndex
 
 pub put-back : (s : Session) (note : ℕ) → putSlot s note (slotOf s note) ≡ s
 unfolding slotOf putSlot
-put-back s note = ap (λ l. record { slots = l }) (set-getD (s .slots) (slotIndex note) emptySlot)
+put-back s note = ap (λ l. record { slots = l; listed = s .listed; opened = s .opened }) (set-getD (s .slots) (slotIndex note) emptySlot)
 
-pub put-both : (s : Session) (m n : ℕ) (a b : Slot) → (slotIndex m ≡ slotIndex n → ⊥) → putSlot (putSlot s m a) n b ≡ putSlot (putSlot s n b) m a
-unfolding putSlot
-put-both s m n a b differ = ap (λ l. record { slots = l }) (set-comm (s .slots) (slotIndex m) (slotIndex n) a b differ)
+-- the same of a slot that is put with its count
+pub put-unchanged : (s : Session) (note : ℕ) → putCounted s note (slotOf s note) ≡ s
+unfolding putCounted
+put-unchanged s note =
+    let back : putSlot s note (slotOf s note) .slots ≡ s .slots = ap (λ (t : Session). t .slots) (put-back s note) in
+    rw (back, count-same (s .opened) (slotOf s note .status))
+
+pub counted-other : (s : Session) (m n : ℕ) (slot : Slot) → (slotIndex n ≡ slotIndex m → ⊥) → slotOf (putCounted s m slot) n ≡ slotOf s n
+unfolding slotOf putCounted
+counted-other s m n slot differ = put-other s m n slot differ
+
+pub put-both : (s : Session) (m n : ℕ) (a b : Slot) → (slotIndex m ≡ slotIndex n → ⊥)
+    → putCounted (putCounted s m a) n b ≡ putCounted (putCounted s n b) m a
+unfolding putCounted putSlot
+put-both s m n a b differ =
+    rw (
+      counted-other s m n a (λ e. differ (sym e)),
+      counted-other s n m b differ,
+      set-comm (s .slots) (slotIndex m) (slotIndex n) a b differ,
+      counts-commute (s .opened) (slotOf s m .status) (a .status) (slotOf s n .status) (b .status),
+    )
 
 module _ (s : Session) (note : ℕ) where
   pub on-listed : (f : Slot → Step) → isListed (slotOf s note) note ≡ true
-      → onNote s note f ≡ record { answer = f (slotOf s note) .answer; session = putSlot s note (f (slotOf s note) .slot) }
+      → onNote s note f ≡ record { answer = f (slotOf s note) .answer; session = putCounted s note (f (slotOf s note) .slot) }
   unfolding onNote
   on-listed f h = rw (at-listed (slotOf s note) note f h)
 
   pub on-unlisted : (f : Slot → Step) → isListed (slotOf s note) note ≡ false → onNote s note f ≡ record { answer = bareRefusal unlisted; session = s }
   unfolding onNote
-  on-unlisted f h = rw (at-unlisted (slotOf s note) note f h, put-back s note)
+  on-unlisted f h = rw (at-unlisted (slotOf s note) note f h, put-unchanged s note)
 
   -- as the code does it: what is read at the index is the note's slot, whatever a read past the end gives
   module _ (all : length (s .slots) ≡ 32) (z : Slot) (i : ℕ) (at : i ≡ slotIndex note) where
@@ -81,10 +101,12 @@ module _ (s : Session) (note : ℕ) where
     unfolding slotOf
     read-there = rw at (getD-within (s .slots) (slotIndex note) z emptySlot (rw all (index-lt note)))
 
-    pub put-there : (f : Slot → Step) (step : Step) → step ≡ onSlot (getD (s .slots) i z) note f
-        → record { answer = step .answer; session = record { slots = set (s .slots) i (step .slot) } } ≡ onNote s note f
-    unfolding onNote putSlot
-    put-there f step h = rw (h, read-there, at)
+    -- with the open count that the code has
+    pub put-there : (f : Slot → Step) (step : Step) (count : ℕ) → step ≡ onSlot (getD (s .slots) i z) note f
+        → count ≡ openAfter (s .opened) (getD (s .slots) i z .status) (step .slot .status)
+        → record { answer = step .answer; session = record { slots = set (s .slots) i (step .slot); listed = s .listed; opened = count } } ≡ onNote s note f
+    unfolding onNote putCounted putSlot
+    put-there f step count h c = rw (c, h, read-there, at)
 
     pub asked-there : askAt (getD (s .slots) i z) note ≡ ask s note
     unfolding ask

@@ -13,6 +13,7 @@ use Rattle.refusal.specs.Table.{accepted, unlisted, slotNotInOrder, decided, pa
 use Rattle.slots.specs.Slots.{waiting, slotInOrder, emptySlot}
 use Rattle.slots.specs.Delivery.{bareRefusal, asItStands, withPiece, deliverTo, isListed}
 use Rattle.session.specs.Sessions.{emptySession, slotIndex, slotOf, putSlot}
+use Rattle.session.specs.Light.{openAfter, putCounted}
 use Rattle.session.specs.Operations.{deliver, ask}
 use Rattle.session.specs.Promises.{Row, row5, row6, row7, row8, row0, AskRow, ask5, ask6, ask-waiting, ask-decided, Listed, Waits, IsDecided}
 use Rattle.slots.specs.declared.Slot.{Slot}
@@ -23,7 +24,7 @@ use Rattle.slots.proofs.Slots.{not-waiting, has-room, else-decided, taken-waiti
 use Rattle.slots.proofs.Deliver.{not-in-order, is-decided, runs-past, is-taken, asked, asked-not-in-order}
 use Rattle.slots.proofs.Pieces.{counted, empty-piece}
 use Rattle.slots.proofs.Listed.{ask-at-listed, ask-at-unlisted}
-use Rattle.session.proofs.Putting.{index-lt, put-back, on-listed, on-unlisted}
+use Rattle.session.proofs.Putting.{index-lt, put-unchanged, on-listed, on-unlisted}
 use Rattle.session.proofs.Listed.{listed-is, unlisted-is}
 
 -- where two bounds hold together, they are passed together
@@ -57,7 +58,7 @@ module _ (s : Session) (note : ℕ) (piece : List ℕ) where
   refusal : Listed s note → {a b : Answer} → deliverTo (slot s note) piece ≡ record { answer = a; slot = slot s note } → a ≡ b
       → record { answer = b; session = s } ≡ deliver s note piece
   unfolding deliver
-  refusal l e f = sym (on-listed s note _ (listed-is s note .1 l) ∙ rw (e, put-back s note, f))
+  refusal l e f = sym (on-listed s note _ (listed-is s note .1 l) ∙ rw (e, put-unchanged s note, f))
 
   -- "taken + piece exceeds length", and the room that the piece is held against
   room-is : Waits s note
@@ -71,6 +72,12 @@ module _ (s : Session) (note : ℕ) (piece : List ℕ) where
   unfolding asItStands
   taken-then w e = rw (counted (slot s note) (w .in-order) (w .waiting) piece e)
 
+  -- what is left then, of a note that waited
+  left-then : Waits s note → (after : Slot)
+      → record { slots = putSlot s note after .slots; listed = s .listed; opened = openAfter (s .opened) 1 (after .status) } ≡ putCounted s note after
+  unfolding putCounted
+  left-then w after = rw (w .waiting)
+
   -- a row that holds is the answer
   holds : {d : Delivered} → Row s note piece d → d ≡ deliver s note piece
   unfolding deliver
@@ -80,7 +87,7 @@ module _ (s : Session) (note : ℕ) (piece : List ℕ) where
   holds (row8 w e) =
       refusal (w .listed) (runs-past (slot s note) piece (w .in-order) (w .waiting) (past-room (room-is w) e)) (stands-waiting s note pastLength w)
   holds (row0 w e) =
-      sym (on-listed s note _ (listed-is s note .1 (w .listed)) ∙ rw (is-taken (slot s note) piece (w .in-order) (w .waiting) (room-is w .0 e), taken-then w e))
+      sym (on-listed s note _ (listed-is s note .1 (w .listed)) ∙ rw (is-taken (slot s note) piece (w .in-order) (w .waiting) (room-is w .0 e), taken-then w e, left-then w (withPiece (slot s note) piece)))
 
   -- some row holds
   some : (l o w f : Bool) → isListed (slot s note) note ≡ l → slotInOrder (slot s note) ≡ o → eqb (slot s note .status) waiting ≡ w
@@ -138,7 +145,7 @@ pub empty-leaves : (s : Session) (note : ℕ) → Waits s note
 empty-leaves s note w =
     let r = has-room (slotOf s note) (w .in-order) (w .waiting) in
     sym (holds s note [] (row0 w (omega arith)))
-    ∙ rw (empty-piece (slotOf s note) (w .in-order) (w .waiting), put-back s note, w .waiting, add-zero (slotOf s note .state .total))
+    ∙ rw (empty-piece (slotOf s note) (w .in-order) (w .waiting), left-then s note [] w (slotOf s note), put-unchanged s note, w .waiting, add-zero (slotOf s note .state .total))
 
 -- the same of asking
 module _ (s : Session) (note : ℕ) where

@@ -1,3 +1,4 @@
 pub mod Sessions
+pub mod Light
 pub mod Operations
 pub mod Promises

@@ -5,15 +5,16 @@ use Rattle.slots.specs.Delivery.{deliverTo, onSlot, askAt}
 use Rattle.slots.specs.declared.Slot.{Slot}
 use Rattle.slots.specs.declared.Answer.{Answer}
 use Rattle.slots.specs.declared.Step.{Step}
-use Rattle.session.specs.Sessions.{slotOf, putSlot}
+use Rattle.session.specs.Sessions.{slotOf}
+use Rattle.session.specs.Light.{putCounted}
 use Rattle.session.specs.declared.Session.{Session}
 use Rattle.session.specs.declared.Delivered.{Delivered}
 
--- something done to one note's slot: it "looks at its own slot only"
+-- something done to one note's slot: it "looks at its own slot only", and 3/13: "also reads the open count"
 unfoldable pub onNote : Session → (note : ℕ) (doing : Slot → Step) → Delivered
 onNote s note doing =
     let step = onSlot (slotOf s note) note doing in
-    record { answer = step .answer; session = putSlot s note (step .slot) }
+    record { answer = step .answer; session = putCounted s note (step .slot) }
 
 unfoldable pub deliver : Session → (note : ℕ) (piece : List ℕ) → Delivered
 deliver s note piece = onNote s note (λ slot. deliverTo slot piece)

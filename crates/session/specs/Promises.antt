@@ -13,6 +13,7 @@ use Rattle.slots.specs.declared.Slot.{Slot}
 use Rattle.slots.specs.declared.Answer.{Answer}
 use Rattle.slots.specs.declared.Step.{Step}
 use Rattle.session.specs.Sessions.{emptySession, slotIndex, slotOf, putSlot}
+use Rattle.session.specs.Light.{allOpen, ready, openAfter}
 use Rattle.session.specs.Operations.{onNote, deliver, ask, delivery, noteOf, perform}
 use Rattle.session.specs.declared.Session.{Session}
 use Rattle.session.specs.declared.Delivered.{Delivered}
@@ -52,7 +53,7 @@ pub data Row (s : Session) (note : ℕ) (piece : List ℕ) : Delivered → Type 
   row8 :
       Waits s note → slotOf s note .sample .length < slotOf s note .state .total + length piece
       → Row s note piece (record { answer = record { number = pastLength; status = 1; taken = slotOf s note .state .total }; session = s })
-  -- 0: "an accepted call": the piece is taken, and the slot answers as it then stands
+  -- 0: "an accepted call": the piece is taken, the slot answers as it then stands, and the open count goes by its status
   row0 :
       Waits s note → slotOf s note .state .total + length piece ≤ slotOf s note .sample .length
       → Row s note piece
@@ -62,7 +63,11 @@ pub data Row (s : Session) (note : ℕ) (piece : List ℕ) : Delivered → Type 
           status = withPiece (slotOf s note) piece .status;
           taken = slotOf s note .state .total + length piece;
         };
-        session = putSlot s note (withPiece (slotOf s note) piece);
+        session = record {
+          slots = putSlot s note (withPiece (slotOf s note) piece) .slots;
+          listed = s .listed;
+          opened = openAfter (s .opened) 1 (withPiece (slotOf s note) piece .status);
+        };
       })
 
 -- Those for asking, "with refusals 5 and 6 only".
@@ -72,6 +77,25 @@ pub data AskRow (s : Session) (note : ℕ) : Answer → Type 0 where
   ask-waiting : Waits s note → AskRow s note (record { number = accepted; status = 1; taken = slotOf s note .state .total })
   ask-decided :
       IsDecided s note → AskRow s note (record { number = accepted; status = slotOf s note .status; taken = slotOf s note .sample .length })
+
+-- 3/13: a count, by a note's status before and after. "opening a note adds one, save that a stored count of 32 or more stays"
+pub record OpenCount (count before after then : ℕ) : Type 0 where
+  pub opening : (before ≡ 2 → ⊥) → after ≡ 2 → count < 32 → then ≡ count + 1
+  pub full : 32 ≤ count → then ≡ count
+  -- nothing else touches it: not a note that was open already, and not one that is not open now
+  pub open-already : before ≡ 2 → then ≡ count
+  pub not-opened : (after ≡ 2 → ⊥) → then ≡ count
+
+-- a delivery that opens its note: it is accepted, and answers "open"
+abbrev pub Opening : (s : Session) (note : ℕ) (piece : List ℕ) → Type 0
+Opening s note piece = (deliver s note piece .answer .number ≡ accepted) × (deliver s note piece .answer .status ≡ 2)
+
+-- 3/13, from ANY stored session: what a delivery does to both counts
+pub record Counts (s : Session) (note : ℕ) (piece : List ℕ) : Type 0 where
+  pub listed : deliver s note piece .session .listed ≡ s .listed
+  pub opening : Opening s note piece → s .opened < 32 → deliver s note piece .session .opened ≡ s .opened + 1
+  pub full : 32 ≤ s .opened → deliver s note piece .session .opened ≡ s .opened
+  pub others : (Opening s note piece → ⊥) → deliver s note piece .session .opened ≡ s .opened
 
 -- two operations on different notes, in either order: the same answers, and the same session at the end
 pub record Apart (s : Session) (m n : ℕ) (f g : Slot → Step) : Type 0 where
@@ -103,7 +127,12 @@ pub record Promises : Type 0 where
   pub put-other :
       (s : Session) (m n : ℕ) (slot : Slot) → (slotIndex n ≡ slotIndex m → ⊥) → slotOf (putSlot s m slot) n ≡ slotOf s n
   pub put-back : (s : Session) (note : ℕ) → putSlot s note (slotOf s note) ≡ s
-  -- "session with no note listed": 32 slots, and no number is listed
+  -- and putting it touches no count
+  pub put-counts :
+      (s : Session) (note : ℕ) (slot : Slot)
+      → (putSlot s note slot .listed ≡ s .listed) × (putSlot s note slot .opened ≡ s .opened)
+  -- "session with no note listed": 32 slots, no number is listed, and both counts are 0
+  pub empty-counts : (emptySession .listed ≡ 0) × (emptySession .opened ≡ 0)
   pub empty-slots : length (emptySession .slots) ≡ 32
   pub empty-lists : (note : ℕ) → slotOf emptySession note ≡ emptySlot
   pub empty-asked : (note : ℕ) → ask emptySession note ≡ record { number = unlisted; status = 0; taken = 0 }
@@ -127,7 +156,11 @@ pub record Promises : Type 0 where
       → deliver s note piece
       ≡ record {
         answer = deliverAt (slotOf s note) note piece .answer;
-        session = putSlot s note (deliverAt (slotOf s note) note piece .slot);
+        session = record {
+          slots = putSlot s note (deliverAt (slotOf s note) note piece .slot) .slots;
+          listed = s .listed;
+          opened = openAfter (s .opened) (slotOf s note .status) (deliverAt (slotOf s note) note piece .slot .status);
+        };
       }
   pub ask-by-slot : (s : Session) (note : ℕ) → ask s note ≡ askAt (slotOf s note) note
   pub on-note : (s : Session) (note : ℕ) (piece : List ℕ) → deliver s note piece ≡ onNote s note (λ slot. deliverTo slot piece)
@@ -135,11 +168,25 @@ pub record Promises : Type 0 where
   -- a delivery, as one of the operations on a note
   pub delivers : (s : Session) (note : ℕ) (piece : List ℕ) → perform s (delivery note piece) ≡ deliver s note piece
   -- "A delivery looks at its own slot only", and so does any other operation on one note: the answer goes by that slot, and every other
-  -- one stays
+  -- one stays; but since 3/13 it "also reads the open count", which goes by itself and by what becomes of that slot
   pub own-slot :
       (s t : Session) (note : ℕ) (f : Slot → Step) → slotOf s note ≡ slotOf t note
       → onNote s note f .answer ≡ onNote t note f .answer
   pub other-slots :
       (s : Session) (note m : ℕ) (f : Slot → Step) → (note ≡ m → ⊥) → 1 ≤ m → m ≤ 32 → slotOf (onNote s note f .session) m ≡ slotOf s m
+  pub own-count :
+      (s t : Session) (note : ℕ) (f : Slot → Step) → slotOf s note ≡ slotOf t note → s .opened ≡ t .opened
+      → onNote s note f .session .opened ≡ onNote t note f .session .opened
+  pub listed-stays : (s : Session) (note : ℕ) (f : Slot → Step) → onNote s note f .session .listed ≡ s .listed
   -- so operations on different notes may change places
   pub apart : (s : Session) (m n : ℕ) (f g : Slot → Step) → (m ≡ n → ⊥) → Apart s m n f g
+  -- 3/13: "answer from those two alone: yes exactly when they are equal and not zero", whatever is stored
+  pub lights : (listed opened : ℕ) → (allOpen listed opened ≡ true) ↔ ((listed ≡ opened) × (opened ≡ 0 → ⊥))
+  pub ready-by : (s : Session) → ready s ≡ allOpen (s .listed) (s .opened)
+  -- what becomes of the counts
+  pub open-count : (count before after then : ℕ) → (then ≡ openAfter count before after) ↔ OpenCount count before after then
+  pub counts : (s : Session) (note : ℕ) (piece : List ℕ) → Counts s note piece
+  -- a delivery opens its note exactly where the note's slot was not open, and is
+  pub opened-then :
+      (s : Session) (note : ℕ) (piece : List ℕ) → length (s .slots) ≡ 32
+      → Opening s note piece ↔ ((slotOf s note .status ≡ 2 → ⊥) × (slotOf (deliver s note piece .session) note .status ≡ 2))

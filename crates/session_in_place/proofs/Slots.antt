@@ -27,6 +27,7 @@ use Rattle.session.specs.Sessions.{slotIndex}
 use Rattle.session.proofs.Putting.{index-lt}
 use Rattle.slots.specs.declared.Slot.{Slot}
 use Rattle.session.specs.declared.Session.{Session}
+use Rattle.sheet.proofs.Filling.{withSlot}
 use Rattle.session_in_place.proofs.Structs.{OneSlot, AllSlots}
 
 -- a note's place is one of the 32, and its offset fits: a slot is 160 bytes
@@ -40,11 +41,15 @@ far note i at = let l = below note i at in omega arith
 abbrev pub slotAt : ℕ × ℕ → ℕ → ℕ × ℕ
 slotAt a i = (a .0, spot OneSlot (a .1 + 0) i)
 
+-- the session with other slots, and the same counts
+abbrev withSlots : Session → List Slot → Session
+withSlots s ys = record { slots = ys; listed = s .listed; opened = s .opened }
+
 module _ {M : Type 1} (𝓤 : URA M) (H : Heap 𝓤) (A : Atoms 𝓤) (W : Given 𝓤 H A) (q : Share) (a : ℕ × ℕ) where
   -- how the slots are cut out of a session, and others put in their place
-  cut : (s : Session) (ys : List Slot) → Cut 𝓤 H A q (rowOf AllSlots) (Array (rowOf OneSlot) 32) 0 s (record { slots = ys }) (s .slots) ys a
-  cut s ys = cut-records 𝓤 H A q (rowOf AllSlots) (OneSlot .type) 32 0 s (record { slots = ys }) (s .slots) ys a
-      (put-at 𝓤 H A W q (AllSlots .type) (AllSlots .laws) 0 0 refl refl a s (record { slots = ys }) (s .slots, tt) ys refl refl)
+  cut : (s : Session) (ys : List Slot) → Cut 𝓤 H A q (rowOf AllSlots) (Array (rowOf OneSlot) 32) 0 s (withSlots s ys) (s .slots) ys a
+  cut s ys = cut-records 𝓤 H A q (rowOf AllSlots) (OneSlot .type) 32 0 s (withSlots s ys) (s .slots) ys a
+      (put-at 𝓤 H A W q (AllSlots .type) (AllSlots .laws) 0 0 refl refl a s (withSlots s ys) (s .slots, (s .listed, (s .opened, tt))) ys refl refl)
 
   abbrev pub Back : ℕ → Session → Slot → Item 𝓤
   Back i s y = raw (wand 𝓤 (sem 𝓤 H A (partAt (rowOf OneSlot) q y (slotAt a i .0) (slotAt a i .1))) (sem 𝓤 H A (partAt (rowOf AllSlots) q s (a .0) (a .1))))
@@ -59,11 +64,11 @@ module _ {M : Type 1} {𝓤 : URA M} {H : Heap 𝓤} {A : Atoms 𝓤} {K : Type 
       (element 𝓤 H A W OneSlot (rowOf AllSlots) 32 0 (s .slots) q a s i emptySlot s x l (same 𝓤 H A W OneSlot (rowOf AllSlots) 32 0 (s .slots) q a s i emptySlot (cut 𝓤 H A W q a s (s .slots)))) $ split t $ out t OneSlot q x k
 
   pub sets-slot : K → (q : Share) (a : ℕ × ℕ) (s : Session) (i : ℕ) → i < 32 → (y : Slot)
-      → Step K W (‵ (cell OneSlot q (slotAt a i) (getD (s .slots) i emptySlot)) ∷ Back 𝓤 H A W q a i (record { slots = set (s .slots) i y }) y ∷ Γ) G (‵ (partAt (rowOf AllSlots) q s (a .0) (a .1)) ∷ Γ) G
+      → Step K W (‵ (cell OneSlot q (slotAt a i) (getD (s .slots) i emptySlot)) ∷ Back 𝓤 H A W q a i (withSlot s i y) y ∷ Γ) G (‵ (partAt (rowOf AllSlots) q s (a .0) (a .1)) ∷ Γ) G
   sets-slot t q a s i l y = step (λ k.
       let x : Slot = getD (s .slots) i emptySlot in
-      use1 W (‵ (partAt (rowOf OneSlot) q x (slotAt a i .0) (slotAt a i .1)) ⊛ Back 𝓤 H A W q a i (record { slots = set (s .slots) i y }) y)
-      (element 𝓤 H A W OneSlot (rowOf AllSlots) 32 0 (s .slots) q a s i emptySlot (record { slots = set (s .slots) i y }) y l (cut 𝓤 H A W q a s (set (s .slots) i y))) $ split t $ out t OneSlot q x (λ _. k))
+      use1 W (‵ (partAt (rowOf OneSlot) q x (slotAt a i .0) (slotAt a i .1)) ⊛ Back 𝓤 H A W q a i (withSlot s i y) y)
+      (element 𝓤 H A W OneSlot (rowOf AllSlots) 32 0 (s .slots) q a s i emptySlot (withSlot s i y) y l (cut 𝓤 H A W q a s (set (s .slots) i y))) $ split t $ out t OneSlot q x (λ _. k))
 
   pub slot-back : K → (q : Share) (a : ℕ × ℕ) (i : ℕ) (s : Session) (y : Slot) → IsData OneSlot y
       → Step K W (‵ (partAt (rowOf AllSlots) q s (a .0) (a .1)) ∷ Γ) G (‵ (cell OneSlot q (slotAt a i) y) ∷ Back 𝓤 H A W q a i s y ∷ Γ) G

@@ -1,6 +1,6 @@
 -- The structs of plain data that the walks meet, each with its laws, and what is known of their parts.
-use Prim.Native.Nat.{_<_, _^_}
-use mathlib.Core.Path.{_≡_}
+use Prim.Native.Nat.{ℕ, _<_, _^_}
+use mathlib.Core.Path.{_≡_, refl}
 use lib.ListN.{length}
 use denote.Struct.Laws as LL
 use Rattle.walks.proofs.Borrow.{Data, IsData}
@@ -21,6 +21,7 @@ use Rattle.sheet.proofs.Listing as L
 use Rattle.sheet.proofs.Listing.Laws as L′
 use Rattle.sheet.proofs.Start as B
 use Rattle.sheet.proofs.Start.Laws as B′
+use Rattle.slots.specs.declared.Slot.{Slot}
 use Rattle.slots.specs.declared.Step.{Step}
 use Rattle.session.specs.declared.Session.{Session}
 use Rattle.sheet.specs.declared.Listing.{Listing}
@@ -50,6 +51,9 @@ Listed = record { type = L.the-type; laws = L′.the-laws; plain = L′.the-plai
 abbrev pub Begun : Data
 Begun = record { type = B.the-type; laws = B′.the-laws; plain = B′.the-plain; copies = B′.the-copy }
 
+pub status-fits : (x : Slot) → IsData OneSlot x → x .status < 2 ^ 8
+status-fits x is = LL.owed (OneSlot .type) (OneSlot .laws) x _ is .1 .1 .0 .1
+
 module _ (r : Step) (is : IsData Done r) where
   pub answer-is : IsData Said (r .answer)
   answer-is = LL.owed (Done .type) (Done .laws) r _ is .0
@@ -57,8 +61,22 @@ module _ (r : Step) (is : IsData Done r) where
   pub slot-is : IsData OneSlot (r .slot)
   slot-is = LL.owed (Done .type) (Done .laws) r _ is .1 .0
 
-pub all-slots : (s : Session) → IsData AllSlots s → length (s .slots) ≡ 32
-all-slots s is = length-of-image (OneSlot .type .to) (s .slots) 32 (LL.owed (AllSlots .type) (AllSlots .laws) s _ is .0 .1 .0 .1)
+-- the session with other counts
+abbrev pub withCounts : Session → (listed opened : ℕ) → Session
+withCounts s listed opened = record { slots = s .slots; listed = listed; opened = opened }
+
+module _ (s : Session) (is : IsData AllSlots s) where
+  pub all-slots : length (s .slots) ≡ 32
+  all-slots = length-of-image (OneSlot .type .to) (s .slots) 32 (LL.owed (AllSlots .type) (AllSlots .laws) s _ is .0 .1 .0 .1)
+
+  pub listed-fits : s .listed < 2 ^ 8
+  listed-fits = LL.owed (AllSlots .type) (AllSlots .laws) s _ is .1 .0 .1
+
+  pub opened-fits : s .opened < 2 ^ 8
+  opened-fits = LL.owed (AllSlots .type) (AllSlots .laws) s _ is .1 .1 .0 .1
+
+  pub counted : (listed opened : ℕ) → listed < 2 ^ 8 → opened < 2 ^ 8 → IsData AllSlots (withCounts s listed opened)
+  counted listed opened fits fits′ = LL.owes (AllSlots .type) (AllSlots .laws) (withCounts s listed opened) (LL.owed (AllSlots .type) (AllSlots .laws) s _ is .0, ((refl, fits), ((refl, fits′), tt)))
 
 module _ (r : Listing) (is : IsData Listed r) where
   pub listed-slot : IsData OneSlot (r .slot)
@@ -73,3 +91,6 @@ module _ (r : Start) (is : IsData Begun r) where
 
   pub notes-fit : r .notes < 2 ^ 32
   notes-fit = LL.owed (Begun .type) (Begun .laws) r _ is .1 .0 .1
+
+  pub count-fits : r .listed < 2 ^ 8
+  count-fits = LL.owed (Begun .type) (Begun .laws) r _ is .1 .1 .0 .1

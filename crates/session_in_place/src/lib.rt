@@ -1,6 +1,7 @@
 // The loading session in place, in a session that is lent: what a board calls. Only the note's own slot is copied, and written back.
 ghost use mathlib.Core.Path.{_≡_};
 ghost use Rattle.session.specs.Sessions.{emptySession};
+ghost use Rattle.session.specs.Light.{ready as lit};
 ghost use Rattle.session.specs.Operations.{deliver as delivered, ask as asked};
 ghost use Rattle.sheet.specs.Judging.{entriesAt, withNotes, sheetOf};
 use session::Session;
@@ -10,7 +11,7 @@ use slots::Answer;
 use slots::ask_at;
 use slots::deliver_at;
 
-// A delivery into a lent session. A refusal puts back what was there.
+// A delivery into a lent session. A refusal puts back what was there, and opens nothing.
 pub fn deliver(s: &mut Session, note: u64, piece: &[u8]) -> Answer
     ensures { λ r. ⌜ (r ≡ delivered (now (s .entry)) note (now (piece .entry)) .answer)
         × (now (s .exit) ≡ delivered (now (s .entry)) note (now (piece .entry)) .session) ⌝ }
@@ -19,6 +20,7 @@ pub fn deliver(s: &mut Session, note: u64, piece: &[u8]) -> Answer
     let slot = s.slots[index];
     let step = deliver_at(slot, note, piece);
     s.slots[index] = step.slot;
+    s.opened = session::open_after(s.opened, slot.status, step.slot.status);
     step.answer
 }
 
@@ -31,7 +33,14 @@ pub fn ask(s: &Session, note: u64) -> Answer
     ask_at(slot, note)
 }
 
-// Lists no note in a lent session.
+// The rank-ready light of a lent session: the two counts are read, and no slot is.
+pub fn ready(s: &Session) -> bool
+    ensures { λ r. ⌜ r ≡ lit (now (s .entry)) ⌝ }
+{
+    session::all_open(s.listed, s.opened)
+}
+
+// Lists no note in a lent session, and none is open.
 pub fn list_none(s: &mut Session)
     ensures { λ _. ⌜ now (s .exit) ≡ emptySession ⌝ }
 {
@@ -41,6 +50,8 @@ pub fn list_none(s: &mut Session)
         s.slots[i] = slot;
         i += 1;
     }
+    s.listed = 0;
+    s.opened = 0;
 }
 
 // Lists the notes of so many lines, from a place, in a lent session.
@@ -67,5 +78,6 @@ pub fn read_into(s: &mut Session, text: &[u8]) -> Verdict
     let from = sheet::start_of(h.field, v);
     list_none(s);
     fill(s, text, from.at, from.notes);
+    s.listed = from.listed;
     v
 }

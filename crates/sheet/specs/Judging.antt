@@ -64,11 +64,14 @@ unfoldable pub withNotes : Session → List Entry → Session
 withNotes s [] = s
 withNotes s (e ∷ es) = withNotes (putSlot s (e .note) (waitingSlot (e .sample))) es
 
--- "An accepted sheet's session lists exactly the notes of its lines"
+-- "An accepted sheet's session lists exactly the notes of its lines"; 3/13: it carries how many these are, and that none is open
 unfoldable pub sessionOf : (text : List ℕ) → Session
-sessionOf text = let h = headerAt text 0 in withNotes emptySession (entriesAt (h .value) text (h .stop .at))
+sessionOf text =
+    let h = headerAt text 0 in
+    let entries = entriesAt (h .value) text (h .stop .at) in
+    record { slots = withNotes emptySession entries .slots; listed = length entries; opened = 0 }
 
--- a refused sheet: "line number; session with no note listed"
+-- a refused sheet: "line number; session with no note listed"; 3/13: "A refused sheet has both 0"
 unfoldable pub sheetOf : (text : List ℕ) → Sheet
 sheetOf text =
     let verdict = judged text 0 in

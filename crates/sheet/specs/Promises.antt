@@ -1,5 +1,5 @@
 -- What the sheet's steps promise, one by one. What they promise of whole texts is in the crate `sheet_promises`.
-use Prim.Native.Nat.{ℕ, suc, _+_, _<_, _≤_}
+use Prim.Native.Nat.{ℕ, suc, _+_, _%_, _<_, _≤_}
 use mathlib.Core.Path.{_≡_}
 use mathlib.Core.List.{List}
 use mathlib.Core.Bool.{true, false}
@@ -67,9 +67,11 @@ pub record Promises : Type 0 where
   pub of-line : (last : ℕ) (l : NoteLine) → OfLine last l
   pub of-notes : (text : List ℕ) (at line last : ℕ) → OfNotes text at line last
   pub of-sheet : (text : List ℕ) (at : ℕ) → OfSheet text at
-  -- the note lines begin behind the header, and a refused sheet has none
-  pub starts : (h : Field) (v : Verdict) → v .number ≡ accepted → start h v ≡ record { at = h .stop .at; notes = h .value }
-  pub starts-none : (h : Field) (v : Verdict) → (v .number ≡ accepted → ⊥) → start h v ≡ record { at = h .stop .at; notes = 0 }
+  -- the note lines begin behind the header, and a refused sheet has none. (A count that is accepted has nothing beyond its last byte.)
+  pub starts :
+      (h : Field) (v : Verdict) → v .number ≡ accepted
+      → start h v ≡ record { at = h .stop .at; notes = h .value; listed = h .value % 256 }
+  pub starts-none : (h : Field) (v : Verdict) → (v .number ≡ accepted → ⊥) → start h v ≡ record { at = h .stop .at; notes = 0; listed = 0 }
   -- "each waiting, with its own line's record and a fresh state", in its note's slot
   pub listed :
       (text : List ℕ) (at : ℕ)

@@ -2,7 +2,7 @@
 ghost use mathlib.Core.Path.{_≡_};
 ghost use Rattle.sheet.specs.Judging.{headerAt, headerNumber, entryNumber, noteNumber};
 ghost use Rattle.sheet.specs.Judging.{verdictAt, judged, entriesAt, withNotes, sheetOf};
-ghost use Rattle.sheet.specs.Filling.{start, listing};
+ghost use Rattle.sheet.specs.Filling.{start, listing, withListed};
 ghost use Rattle.session.specs.Sessions.{emptySession};
 use lines::Entry;
 use lines::Field;
@@ -33,10 +33,11 @@ pub struct Sheet {
     pub session: Session,
 }
 
-// Where a sheet's note lines begin, and how many there are.
+// Where a sheet's note lines begin, and how many there are; the same as a session carries it.
 pub struct Start {
     pub at: usize,
     pub notes: u32,
+    pub listed: u8,
 }
 
 // What a note line puts into a session: the slot, its index, and where the next line begins.
@@ -132,7 +133,7 @@ pub fn judged(text: &[u8], at: usize) -> Verdict
     verdict_at(ACCEPTED, 0)
 }
 
-// Where the note lines begin behind a header, and how many there are: none of a refused sheet.
+// Where the note lines begin behind a header, and how many there are: none of a refused sheet. An accepted one has at most 32.
 pub fn start_of(h: Field, v: Verdict) -> Start
     ensures { λ r. ⌜ r ≡ start h v ⌝ }
 {
@@ -141,11 +142,13 @@ pub fn start_of(h: Field, v: Verdict) -> Start
         Start {
             at: stop.at,
             notes: h.value,
+            listed: (h.value % 256) as u8,
         }
     } else {
         Start {
             at: stop.at,
             notes: 0,
+            listed: 0,
         }
     }
 }
@@ -167,22 +170,28 @@ pub fn listing_at(text: &[u8], at: usize) -> Listing
     }
 }
 
-// The session that lists the notes of so many lines, from a place.
-fn filled(text: &[u8], at: usize, notes: u32) -> Session
-    ensures { λ r. ⌜ r ≡ withNotes emptySession (entriesAt notes (now (text .entry)) at) ⌝ }
+// The session that lists the notes of so many lines, from a place, and carries this count of them. The slots are filled before the session
+// is made of them: filled in it, they would be copied once more.
+fn filled(text: &[u8], at: usize, notes: u32, listed: u8) -> Session
+    ensures { λ r. ⌜ r ≡ withListed (withNotes emptySession (entriesAt notes (now (text .entry)) at)) listed ⌝ }
 {
-    let mut session = session::empty_session();
+    let none = slots::empty_slot();
+    let mut slots = [none; 32];
     let mut next = at;
     let mut i: u32 = 0;
     while i < notes {
         let l = listing_at(text, next);
         let index = l.index;
         let slot = l.slot;
-        session.slots[index] = slot;
+        slots[index] = slot;
         next = l.next;
         i += 1;
     }
-    session
+    Session {
+        slots,
+        listed,
+        opened: 0,
+    }
 }
 
 // A rank sheet: its lines are judged, and then the session is filled from them; from none of them if one is bad.
@@ -191,6 +200,6 @@ pub fn read(text: &[u8]) -> Sheet
 {
     let verdict = judged(text, 0);
     let from = start_of(header_at(text, 0), verdict);
-    let session = filled(text, from.at, from.notes);
+    let session = filled(text, from.at, from.notes, from.listed);
     Sheet { verdict, session }
 }

@@ -48,7 +48,7 @@ module _ (last : ℕ) (e : Entry) (o : ObeysRules last e) where
   is-a-note = both-first (isNote (e .note)) _ (o .note-rule)
 
 -- entries that obey the rules are above the note before them
-above : (last : ℕ) (es : List Entry) → AllObey last es → (e : Entry) → Among e es → last < e .note
+pub above : (last : ℕ) (es : List Entry) → AllObey last es → (e : Entry) → Among e es → last < e .note
 above last es (entry o os) e first = rises last e o
 above last es (entry {e = d} {es = more} o os) e (further a) = let up : d .note < e .note = above (d .note) more os e a in let down : last < d .note = rises last d o in omega arith
 
@@ -77,8 +77,9 @@ own-slot s last es size (entry {es = more} o os) e first =
 own-slot s last es size (entry {e = d} {es = more} o os) e (further a) =
     own-slot (with-entry s d) (d .note) more (as-many s d ∙ size) os e a
 
--- from the session with no note listed
-pub lists-entries : (es : List Entry) → AllObey 0 es → Lists (withNotes emptySession es) es
+-- from the session with no note listed, with their count
+pub lists-entries : (es : List Entry) → AllObey 0 es → Lists (record { slots = withNotes emptySession es .slots; listed = length es; opened = 0 }) es
+unfolding slotOf
 lists-entries es o =
     record {
       slots = slots-as-many emptySession es ∙ empty .empty-slots;
@@ -86,11 +87,18 @@ lists-entries es o =
       others =
           λ note low high none.
           others-keep emptySession 0 es o note (is-note-is note .1 (low, high)) none ∙ empty .empty-lists note ∙ slot .empty;
+      notes = refl;
+      none-open = refl;
     }
 
 pub lists-none : Lists emptySession []
-unfolding withNotes
+unfolding withNotes emptySession
 lists-none = lists-entries [] no-entry
+
+-- a list that is not empty has a member
+pub one-of : (es : List Entry) → 1 ≤ length es → (e : Entry) × Among e es
+one-of [] h = absurd (omega arith)
+one-of (e ∷ es) h = (e, first)
 
 -- a note is that of an entry, or of none
 some : {e : Entry} {es : List Entry} → Among e es → 1 ≤ length es
@@ -102,7 +110,7 @@ not-among : {d : Entry} {es : List Entry} (note : ℕ) → (d .note ≡ note →
 not-among note here none e first same = here same
 not-among note here none e (further a) same = none e a same
 
-found : (note : ℕ) (es : List Entry) → ((e : Entry) × Among e es × (e .note ≡ note)) ⊎ ((e : Entry) → Among e es → e .note ≡ note → ⊥)
+pub found : (note : ℕ) (es : List Entry) → ((e : Entry) × Among e es × (e .note ≡ note)) ⊎ ((e : Entry) → Among e es → e .note ≡ note → ⊥)
 found note [] = inr (λ e a same. let one = some a in omega arith)
 found note (d ∷ es) =
     ⊎-elim
@@ -128,4 +136,8 @@ module _ (s t : Session) (es : List Entry) (l : Lists s es) (m : Lists t es) whe
       rw back at (sym (slot-at s (k + 1) low high) ∙ same-slot (k + 1) low high ∙ slot-at t (k + 1) low high)
 
   pub one-session : s ≡ t
-  one-session = λ i. record { slots = ext-getD emptySlot (s .slots) (t .slots) (l .slots ∙ sym (m .slots)) same-place i }
+  one-session =
+      let slots = ext-getD emptySlot (s .slots) (t .slots) (l .slots ∙ sym (m .slots)) same-place in
+      let listed : s .listed ≡ t .listed = l .notes ∙ sym (m .notes) in
+      let opened : s .opened ≡ t .opened = l .none-open ∙ sym (m .none-open) in
+      λ i. record { slots = slots i; listed = listed i; opened = opened i }

@@ -4,10 +4,10 @@ use mathlib.Core.Path.{_≡_, refl, sym, ap, _∙_}
 use mathlib.Core.List.{List, [], _∷_, _++_}
 use mathlib.Core.Logic.{_↔_, ⊎-elim}
 use borrow.Author.Tests.{eq-eqb, ne-eqb}
-use lib.ListN.{drop}
+use lib.ListN.{length, drop}
 use Rattle.refusal.specs.Table.{accepted}
 use Rattle.session.specs.Sessions.{emptySession}
-use Rattle.sheet.specs.Judging.{verdictAt, judged, sessionOf, sheetOf}
+use Rattle.sheet.specs.Judging.{verdictAt, judged, withNotes, sessionOf, sheetOf}
 use Rattle.lines.specs.declared.Entry.{Entry}
 use Rattle.sheet.specs.declared.Verdict.{Verdict}
 use Rattle.sheet_promises.specs.Grammar.{IsSheet}
@@ -56,9 +56,13 @@ bad-session : (text : List ℕ) → (judged text 0 .number ≡ accepted → ⊥)
 unfolding sheetOf
 bad-session text bad = simp (ne-eqb (judged text 0 .number) accepted bad)
 
-lists-lines : (text : List ℕ) (es : List Entry) → IsSheet text es → Lists (sheetOf text .session) es
+pub sheet-session : (text : List ℕ) (es : List Entry) → IsSheet text es
+    → sheetOf text .session ≡ record { slots = withNotes emptySession es .slots; listed = length es; opened = 0 }
 unfolding sessionOf
-lists-lines text es s = rw (good-session text (sheet-number text 0 es s), sheet-entries text 0 es s) (lists-entries es (s .obeyed))
+sheet-session text es s = rw (good-session text (sheet-number text 0 es s), sheet-entries text 0 es s)
+
+lists-lines : (text : List ℕ) (es : List Entry) → IsSheet text es → Lists (sheetOf text .session) es
+lists-lines text es s = rw (sheet-session text es s) (lists-entries es (s .obeyed))
 
 pub proved : Promises
 unfolding sheetOf verdictAt

@@ -41,6 +41,9 @@ pub record Lists (s : Session) (es : List Entry) : Type 0 where
   pub listed : (e : Entry) → Among e es → slotOf s (e .note) ≡ freshlyWaiting (e .sample)
   -- "the sheet reader gives such a slot record zero and a fresh state"
   pub others : (note : ℕ) → 1 ≤ note → note ≤ 32 → ((e : Entry) → Among e es → e .note ≡ note → ⊥) → slotOf s note ≡ notListed
+  -- 3/13: "Let the session carry how many notes are listed and how many are open"
+  pub notes : s .listed ≡ length es
+  pub none-open : s .opened ≡ 0
 
 -- accepted exactly when the text is a sheet: of any reader
 abbrev pub AcceptsOf : (read : List ℕ → Sheet) → Type 0
@@ -62,7 +65,7 @@ pub record Promises : Type 0 where
   pub text-follows :
       (text : List ℕ) (es : List Entry) → IsSheet text es → (byte : ℕ) (rest : List ℕ)
       → sheetOf (text ++ (byte ∷ rest)) .verdict ≡ record { number = form; line = length es + 2 }
-  -- "session with no note listed"
+  -- "session with no note listed"; 3/13: "A refused sheet has both 0"
   pub refused : (text : List ℕ) → (sheetOf text .verdict .number ≡ accepted → ⊥) → Lists (sheetOf text .session) []
   -- "a valid sheet has at most 3,233" bytes
   pub size : (text : List ℕ) (es : List Entry) → IsSheet text es → length text ≤ 3233

@@ -36,7 +36,7 @@ use Rattle.writing.proofs.Proved.{proved as writing}
 use Rattle.writing_promises.specs.Promises.{DigestsStored, Shows, WaitsAgain, written, WrittenAs}
 use Rattle.writing_promises.proofs.Spelled.{sheet-spelled, lines-stored}
 use Rattle.writing_promises.proofs.OneText.{one-text}
-use Rattle.writing_promises.proofs.Members.{one-of, found}
+use Rattle.sheet_promises.proofs.Listing.{one-of, found}
 use Rattle.writing_promises.proofs.Entries.{shows, obeys, one-list, count}
 
 -- the sheet of a session that can be written
@@ -95,12 +95,14 @@ long-enough s room stored enough e =
     omega (arith, small s (h .0) stored (h .1))
 
 -- a session that lists what another shows waits again
-pub waits-again : (s t : Session) (es : List Entry) → Shows s es → Lists t es → WaitsAgain s t
-waits-again s t es shown lists =
+pub waits-again : (s t : Session) → Shows s (entriesOf s) → Lists t (entriesOf s) → WaitsAgain s t
+waits-again s t shown lists =
     record {
       slots = lists .slots;
       listed = λ note l. lists .listed (record { note = note; sample = slotOf s note .sample }) (shown .each note l);
       others = λ note low high e. lists .others note low high (λ d a same. shown .only d a .0 .2 (rw same e));
+      notes = lists .notes;
+      none-open = lists .none-open;
     }
 
 pub reads-back : (s : Session) (buffer : List ℕ) → DigestsStored s → sheetWritten s (length buffer) .number ≡ accepted
@@ -109,7 +111,7 @@ reads-back s buffer stored e =
     let text = written s buffer in
     let is = sheet-written s buffer stored e in (
       sheet .from-start text ∙ sheet .judges text 0 .1 (entriesOf s, is),
-      waits-again s _ (entriesOf s) (shows s) (sheet .lists text (entriesOf s) is),
+      waits-again s _ (shows s) (sheet .lists text (entriesOf s) is),
     )
 
 -- what asking tells of a slot

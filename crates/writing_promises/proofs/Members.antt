@@ -4,26 +4,19 @@ use mathlib.Core.Path.{_≡_, refl, sym, ap, _∙_}
 use mathlib.Core.Logic.{_⊎_, inl, inr, ⊎-elim, ⊎-map}
 use mathlib.Core.List.{List, [], _∷_, _++_}
 use native.Mathlib.Omega.{arith}
-use borrow.Author.Tests.{eqb-true, eqb-false}
-use lib.Dec.{eqb}
 use lib.ListN.{length}
-use Rattle.truth.proofs.Tests.{either}
-use Rattle.rules.proofs.Proved.{proved as rules}
 use Rattle.lines.specs.declared.Entry.{Entry}
 use Rattle.sheet_promises.specs.Grammar.{ObeysRules, AllObey, no-entry, entry}
 use Rattle.sheet_promises.specs.Promises.{Among, first, further}
+use Rattle.sheet_promises.proofs.Listing.{above}
 
--- the empty list has no member, and one that has some has a first
+-- the empty list has no member
 pub some : {e : Entry} {es : List Entry} → Among e es → 1 ≤ length es
 some first = omega arith
 some (further a) = omega arith
 
 pub not-in-none : {e : Entry} → Among e [] → ⊥
 not-in-none a = let one = some a in omega arith
-
-pub one-of : (es : List Entry) → 1 ≤ length es → (e : Entry) × Among e es
-one-of [] h = absurd (omega arith)
-one-of (e ∷ es) h = (e, first)
 
 -- a member is the first one or a further one; of a list of one it is that one
 here-or-further : {e d : Entry} {es : List Entry} → Among e (d ∷ es) → (e ≡ d) ⊎ Among e es
@@ -46,31 +39,6 @@ pub front-or-behind : {e : Entry} (es : List Entry) {others : List Entry} → Am
 front-or-behind [] a = inr a
 front-or-behind (d ∷ es) first = inl first
 front-or-behind (d ∷ es) (further a) = ⊎-map (λ b. further b) (λ b. b) (front-or-behind es a)
-
--- a note is that of a member, or of none
-pub found : (note : ℕ) (es : List Entry)
-    → ((e : Entry) × Among e es × (e .note ≡ note)) ⊎ ((e : Entry) → Among e es → e .note ≡ note → ⊥)
-found note [] = inr (λ e a same. not-in-none a)
-found note (d ∷ es) =
-    ⊎-elim
-    (λ h. inl (d, first, eqb-true (d .note) note h))
-    (λ h.
-    ⊎-map
-    (λ f. (f .0, further (f .1), f .2))
-    (λ none e a same. ⊎-elim (λ is. eqb-false (d .note) note h (rw (← is) same)) (λ b. none e b same) (here-or-further a))
-    (found note es))
-    (either (eqb (d .note) note))
-
--- entries that obey the rules are above the note before them
-rises : (last : ℕ) (e : Entry) → ObeysRules last e → last < e .note
-rises last e o = rules .notes last (e .note) .0 (o .note-rule) .2
-
-above : (last : ℕ) (es : List Entry) → AllObey last es → (e : Entry) → Among e es → last < e .note
-above last es (entry o os) e first = rises last e o
-above last es (entry {e = d} {es = more} o os) e (further a) =
-    let down = rises last d o in
-    let up = above (d .note) more os e a in
-    omega arith
 
 -- one entry more, above all
 pub one-more : (last : ℕ) (es : List Entry) (d : Entry) → AllObey last es

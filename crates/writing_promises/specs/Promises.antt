@@ -51,6 +51,9 @@ pub record WaitsAgain (s t : Session) : Type 0 where
   pub slots : length (t .slots) ≡ 32
   pub listed : (note : ℕ) → Listed s note → slotOf t note ≡ freshlyWaiting (slotOf s note .sample)
   pub others : (note : ℕ) → 1 ≤ note → note ≤ 32 → slotOf s note .status ≡ 0 → slotOf t note ≡ notListed
+  -- 3/13: its counts are of the notes that were written, whatever the other session carried
+  pub notes : t .listed ≡ length (entriesOf s)
+  pub none-open : t .opened ≡ 0
 
 -- the bytes that are written
 abbrev pub written : Session → (buffer : List ℕ) → List ℕ

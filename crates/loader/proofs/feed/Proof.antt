@@ -1,19 +1,18 @@
 -- `feed` feeds a slot. The invariant: so far by full pieces alone. What is missing of the sample falls. Assumes nothing.
 use native.Mathlib.Omega.{arith}
 use borrow.Author.Needs.{needs}
-use Rattle.loader.specs.Loading.{FedWhole, begun, even, OfSlot}
-use Rattle.loader.proofs.Feeding.{missing, fed-whole, fed-shorter, step-fewer}
+use Rattle.loader.proofs.Feeding.{missing, FedSlot, fed-none, fed-so-far, fed-whole, fed-shorter, step-fewer}
 use Rattle.loader.proofs.feed.Statement.{statement}
 use Rattle.loader.proofs.feed.Tie as tie
 
 abbrev Inv-loop : tie.InvT-loop
-Inv-loop fd note now₀ now = OfSlot (FedWhole note) note now₀ now
+Inv-loop fd note now₀ now = FedSlot note now₀ now
 
 abbrev μ-loop : tie.MeasureT-loop
 μ-loop fd note now₀ now = missing now
 
 loop-holds : tie.Need-loop-holds Inv-loop μ-loop
-loop-holds c = λ s all. begun
+loop-holds c = fed-none _ _
 
 -- where a piece is delivered that was read, and where the loop stood before it
 abbrev read-before : tie.After-deliver-at Inv-loop μ-loop → tie.After-read-full Inv-loop μ-loop
@@ -23,10 +22,10 @@ abbrev loop-before : tie.After-deliver-at Inv-loop μ-loop → tie.At-loop Inv-l
 loop-before c = read-before c .before .before .before
 
 returns : tie.Need-returns Inv-loop μ-loop
-returns c = λ s all. even (c .before .before .before .before .before .loop .inv s all)
+returns c = let loop = c .before .before .before .before .before .loop in fed-so-far _ _ (loop .now) (loop .inv)
 
 returns-2 : tie.Need-returns-2 Inv-loop μ-loop
-returns-2 c = λ s all. even (loop-before (c .before .before .before) .loop .inv s all)
+returns-2 c = let loop = loop-before (c .before .before .before) .loop in fed-so-far _ _ (loop .now) (loop .inv)
 
 returns-3 : tie.Need-returns-3 Inv-loop μ-loop
 returns-3 c =

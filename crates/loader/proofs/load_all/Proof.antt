@@ -33,11 +33,12 @@ mul-after c = let low = set-from c in search needs
 
 loop-again : tie.Need-loop-again Inv-loop μ-loop
 loop-again c =
-    let indexed = c .before .before in
+    let indexed = c .before .before .before in
     let loop = indexed .before .before .loop in (
       search needs,
       simp length-set (loop .inv .1),
-      note-more _ (loop .session) _ (loop .done) (loop .inv .2) (note-there (loop .session) (loop .inv .1) _ _ _ (indexed .slot-index .ensures) _ (c .load .ensures)),
+      note-more _ (loop .session) _ (loop .done) (loop .inv .2)
+          (note-there (loop .session) (loop .inv .1) _ _ _ _ (indexed .slot-index .ensures) _ (c .open-after .ensures) (c .before .load .ensures)),
     )
 
 returns : tie.Need-returns Inv-loop μ-loop
@@ -57,6 +58,7 @@ load-all-spec =
     (λ c κs. search needs)
     mul-after
     set-from
+    (λ c κs. search needs)
     (λ c. search needs)
     loop-again
     returns)

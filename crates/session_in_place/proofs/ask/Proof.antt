@@ -6,8 +6,8 @@ use mathlib.Core.List.{[], _∷_, List}
 use lib.ListN.{getD}
 use contract.Running.{tablesOf}
 use denote.Struct.Laws as LL
-use Rattle.walks.proofs.Words.{URA, named, w64, Val, vint, vptr, SProp, ent, emp, id⊢, Memory, Routine, Heap, Calls, Loops, WpFn, Atoms, FmC, Lfts, Shares, Fun, factI, givenOf, tables, Given, raw, _$_, _∵_, !, qed, by, move, keep, drop, look, init, stop, hop, fld, from, load, lit, of-opd, and-then, no-more, addr, bin, assigns, land, returns, enter, alloc1, alloc0, params1, pass1, pass0, free0, Is, uint-makes, uint-vals, uint-tells, u64, RefT, ptr-vals, shr-tells, plain, owned, Contract, Triple, onEntry, tripleOf, cited, Stays, stay-none, stay-none-ref, walkOf, goes-none, goes-none-ref, yes}
-use Rattle.walks.proofs.Borrow.{rowOf, machine, typed, made, looked, shut, known, gone}
+use Rattle.walks.proofs.Words.{URA, named, w64, Val, vint, vptr, SProp, ent, emp, id⊢, Memory, Routine, Heap, Calls, Loops, WpFn, Atoms, FmC, Lfts, Shares, Fun, factI, givenOf, tables, Given, raw, _$_, _∵_, !, qed, by, move, keep, drop, look, init, stop, hop, fld, from, load, lit, of-opd, and-then, no-more, addr, bin, assigns, land, returns, enter, alloc1, alloc0, params1, pass1, pass0, free0, uint-vals, uint-tells, u64, RefT, ptr-vals, shr-tells, plain, Contract, Triple, onEntry, tripleOf, cited, Stays, stay-none, stay-none-ref, walkOf, goes-none, goes-none-ref, yes}
+use Rattle.walks.proofs.Borrow.{rowOf, machine, typed, made, made-uint, looked, shut, known, gone}
 use Rattle.walks.proofs.Calls.{arrives, asks}
 use Rattle.walks.proofs.Ends.{ends, stands}
 use Rattle.slots.specs.Slots.{emptySlot}
@@ -76,13 +76,13 @@ module _ {M : Type 1} (𝓤 : URA M) (H : Heap 𝓤) (A : Atoms 𝓤) (W : Given
         assigns ! (of-opd ! (load ! (from ! (stop !)) (look ! 4 refl))) (from ! (stop !)) (init ! 12 refl (typed OneSlot 𝓤 H A W (slot i) is)) $
         slot-back ! q′ (s .ptr) i (s .now) (slot i) is $ shut ! tt AllSlots q′ s $
         -- the slot and note are passed to `ask_at`
-        owned ! u64 (Is u64) (uint-makes 𝓤 H A W w64) note (vint w64 note ∷ []) (refl, fits) $ made ! OneSlot (slot i) is $
+        made-uint ! w64 note fits $ made ! OneSlot (slot i) is $
         asks W ask-at.ended tt tt (slot i, (note, tt)) (machine OneSlot (slot i) ∷ [], (vint w64 note ∷ [], tt)) (ask-at.clauses 𝓤 H A mem run) tt tt (machine Said) (LL.tells (Said .type) (Said .laws)) (λ r. r ≡ askAt (slot i) note) !
         fm answers (id⊢ 𝓤 (emp 𝓤)) (λ r ws. id⊢ 𝓤 _) (and-then ! (load ! (from ! (stop !)) (look ! 11 refl)) (and-then ! (load ! (from ! (stop !)) (look ! 15 refl)) (no-more !))) (λ r e r-is.
         -- [the answer; the token; s; _8; …; _0; …]
         land ! (from ! (stop !)) (init ! 19 refl (typed Said 𝓤 H A W r r-is)) $
         returns ! (look ! 19 refl) $ gone ! 19 refl refl $ gone ! 17 refl refl $ gone ! 15 refl refl $ gone ! 13 refl refl $ gone ! 11 refl refl $ gone ! 9 refl refl $ gone ! 7 refl refl $ gone ! 5 refl refl $ gone ! 3 refl refl $ free0 ! $
-        owned ! u64 (Is u64) (uint-makes 𝓤 H A W w64) note (vint w64 note ∷ []) (refl, fits) $ keep ! (2 ∷ 3 ∷ 0 ∷ 1 ∷ []) $
+        made-uint ! w64 note fits $ keep ! (2 ∷ 3 ∷ 0 ∷ 1 ∷ []) $
         by ! (ends 𝓤 H A W ask.ended stayed (ask.clauses 𝓤 H A mem run) y (machine Said r) r (tt, (tt, tt)) (tt, (tt, tt)) (factI 𝓤 _ (emp 𝓤) (e ∙ asked-there (s .now) note (all-slots (s .now) s-is) emptySlot i at)))))))))))))))))
 
 pub ask-spec : {M : Type 1} → stated.statement M

@@ -7,13 +7,13 @@ use native.Mathlib.Nat.{zero-add}
 use mathlib.Core.Bool.{false}
 use mathlib.Core.List.{[], _∷_, List}
 use lib.Dec.{ltb}
-use lib.ListN.{length, set}
+use lib.ListN.{length}
 use borrow.Author.Tests.{ltb-true, ltb-false}
 use prog.Wp.{afterTurn}
 use contract.Running.{tablesOf}
 use denote.Struct.Laws as LL
-use Rattle.walks.proofs.Words.{URA, fullShare, named, w32, w64, tyInt, Val, vunit, vint, vptr, SProp, ent, emp, id⊢, Fml, fat, Memory, Routine, Heap, Tables, WpFn, Atoms, fmOf, Lfts, Shares, Fun, factI, givenOf, tables, Given, Item, ‵, raw, _⊛_, _$_, _∵_, !, qed, by, move, keep, drop, use1, split, join, feqI, atRet, look, store, init, forget, stop, hop, fld, from, load, lit, unit-lit, of-opd, and-then, no-more, addr, bin, assigns, assigns-last, land, first, blocks, exec, returns, enter, alloc1, alloc0, params1, pass1, pass0, free0, whole, sub, look-in, partAt, Is, uint-makes, uint-vals, uint-tells, u8, u32, usize, RefT, ptr-vals, mut-tells, plain, sliceVal, ShrSlice, slice-vals, shr-slice-tells, shr-slice-lawful, shr-slice-copy, owned, Contract, Triple, onEntry, tripleOf, cited, Stays, stay-ref, stay-none, stay-none-slice, walkOf, goes-ref, goes-none, goes-none-slice, yes}
-use Rattle.walks.proofs.Borrow.{rowOf, machine, typed, opened, closed, gone, unused}
+use Rattle.walks.proofs.Words.{URA, fullShare, named, w32, w64, tyInt, Val, vunit, vint, vptr, SProp, ent, emp, id⊢, Fml, fat, Memory, Routine, Heap, Tables, WpFn, Atoms, fmOf, Lfts, Shares, Fun, factI, givenOf, tables, Given, Item, ‵, raw, _⊛_, _$_, _∵_, !, qed, by, move, keep, drop, use1, split, join, feqI, atRet, look, store, init, forget, stop, hop, fld, from, load, lit, unit-lit, of-opd, and-then, no-more, addr, bin, assigns, assigns-last, land, first, blocks, exec, returns, enter, alloc1, alloc0, params1, pass1, pass0, free0, whole, sub, look-in, partAt, Is, uint-vals, uint-tells, u8, u32, usize, RefT, ptr-vals, mut-tells, plain, sliceVal, ShrSlice, slice-vals, shr-slice-tells, shr-slice-lawful, shr-slice-copy, Contract, Triple, onEntry, tripleOf, cited, Stays, stay-ref, stay-none, stay-none-slice, walkOf, goes-ref, goes-none, goes-none-slice, yes}
+use Rattle.walks.proofs.Borrow.{rowOf, machine, typed, made-uint, opened, closed, gone, unused}
 use Rattle.walks.proofs.Calls.{arrives, asks}
 use Rattle.walks.proofs.Loops.{after, envOf, Some, held, hold, turning, once-more, tests}
 use Rattle.walks.proofs.Ends.{ends, stands}
@@ -23,7 +23,7 @@ use Rattle.session_in_place.proofs.Structs.{OneSlot, AllSlots}
 use Rattle.session_in_place.proofs.Slots.{sets-slot, slot-back}
 use Rattle.sheet.specs.Filling.{listing}
 use Rattle.sheet.specs.declared.Listing.{Listing}
-use Rattle.sheet.proofs.Filling.{lists-next, lists-none, listing-lt}
+use Rattle.sheet.proofs.Filling.{withSlot, lists-next, lists-none, listing-lt}
 use Rattle.session_in_place.proofs.Structs.{Listed, listed-slot, next-fits}
 use Rattle.sheet.proofs.listing_at as listing-at
 use Rattle.sheet.proofs.listing_at.Symbol as listing-at-def
@@ -53,7 +53,7 @@ module _ (text : List ℕ) (at notes : ℕ) (s : Session) where
     fewer : x .1 < notes → t - 1 < t
     fewer l = omega (arith, f .0)
 
-    turned : x .1 < notes → (r : Listing) → r ≡ listing text (x .0) → r .next < 2 ^ 64 → Left (t - 1) (r .next, x .1 + 1, record { slots = set (x .2 .slots) (r .index) (r .slot) })
+    turned : x .1 < notes → (r : Listing) → r ≡ listing text (x .0) → r .next < 2 ^ 64 → Left (t - 1) (r .next, x .1 + 1, withSlot (x .2) (r .index) (r .slot))
     turned l r e fits =
         let more : suc (t - 1) ≡ t = omega (arith, f .0) in
         (omega (arith, f .0), sym (lists-next text (x .0) r e (x .2) (t - 1)) ∙ subst (λ (n : ℕ). withNotes (x .2) (entriesAt n text (x .0)) ≡ withNotes s (entriesAt notes text at)) (sym more) (f .1), fits)
@@ -114,7 +114,7 @@ module _ {M : Type 1} (𝓤 : URA M) (H : Heap 𝓤) (A : Atoms 𝓤) (W : Given
         tests ! (ltb (x .1) notes) (load ! (from ! (stop !)) (look ! 14 refl))
         (λ small.
         -- the line is read
-        move ! (5 ∷ []) $ use1 W (‵ Text ⊛ ‵ Text) (shr-slice-copy 𝓤 H A W (named 1) (κs .1 .0) u8 .twice text (v ∷ [])) $ split ! $ owned ! usize (Is usize) (uint-makes 𝓤 H A W w64) (x .0) (vint w64 (x .0) ∷ []) (refl, f .2) $ move ! (7 ∷ 1 ∷ 0 ∷ []) $
+        move ! (5 ∷ []) $ use1 W (‵ Text ⊛ ‵ Text) (shr-slice-copy 𝓤 H A W (named 1) (κs .1 .0) u8 .twice text (v ∷ [])) $ split ! $ made-uint ! w64 (x .0) (f .2) $ move ! (7 ∷ 1 ∷ 0 ∷ []) $
         asks W listing-at.ended (κs .1 .0, tt) (qs .1 .0, tt) (text, (x .0, tt)) (v ∷ [], (vint w64 (x .0) ∷ [], tt)) (listing-at.clauses 𝓤 H A mem run) tt tt (machine Listed) (LL.tells (Listed .type) (Listed .laws)) (λ r. r ≡ listing (text .now) (x .0)) !
         (fmOf 𝓤 H (W .laws) 𝓣) reads (id⊢ 𝓤 (emp 𝓤)) (λ r ws. id⊢ 𝓤 _) (and-then ! (load ! (from ! (stop !)) (look ! 24 refl)) (and-then ! (load ! (from ! (stop !)) (look ! 4 refl)) (no-more !))) (λ r e is. move ! (1 ∷ []) $ drop ! $
         -- [text's token; text; the counter; the session; the place; the open borrow; at; notes; _11; …; _7; …; …; …; _4; …; _0; …]
@@ -125,13 +125,13 @@ module _ {M : Type 1} (𝓤 : URA M) (H : Heap 𝓤) (A : Atoms 𝓤) (W : Given
         assigns ! (bin ! (load ! (from ! (stop !)) (look ! 10 refl)) (load ! (from ! (stop !)) (look ! 12 refl)) tt) (from ! (stop !)) (init ! 8 refl (tt, tt)) $
         move ! (3 ∷ []) $ sets-slot ! fullShare (s .ptr) (x .2) (r .index) (listing-lt (text .now) (x .0) r e) (r .slot) $
         assigns ! (of-opd ! (load ! (from ! (fld ! refl (stop !))) (look-in ! 17 (sub ! 1 refl (whole !))))) (from ! (hop ! (look ! 9 refl) (stop !))) (store ! 0 refl (typed OneSlot 𝓤 H A W (r .slot) (listed-slot r is))) $
-        slot-back ! fullShare (s .ptr) (r .index) (record { slots = set (x .2 .slots) (r .index) (r .slot) }) (r .slot) (listed-slot r is) $
+        slot-back ! fullShare (s .ptr) (r .index) (withSlot (x .2) (r .index) (r .slot)) (r .slot) (listed-slot r is) $
         -- [the session; text's token; text; the counter; the place; the open borrow; at; notes; _11; …; _7; …; …; …; _4; …; _0; …]
         assigns ! (of-opd ! (load ! (from ! (fld ! refl (stop !))) (look-in ! 16 (sub ! 2 refl (whole !))))) (from ! (stop !)) (store ! 4 refl (tt, record { fits = next-fits r is })) $
         assigns-last ! (bin ! (load ! (from ! (stop !)) (look ! 3 refl)) (lit ! tt) (record { fits = further (text .now) at notes (s .now) t x f (ltb-true _ _ small) notes-fit })) (from ! (stop !)) (store ! 3 refl (tt, record { fits = further (text .now) at notes (s .now) t x f (ltb-true _ _ small) notes-fit })) $
         forget ! 8 refl $ forget ! 10 refl $ forget ! 12 refl $ forget ! 14 refl $ forget ! 16 refl $
         move ! (3 ∷ 0 ∷ []) $ join ! $ move ! (3 ∷ 0 ∷ []) $ join ! $ move ! (0 ∷ 3 ∷ []) $
-        hold ! (Lines (t - 1)) (There l₅ l₆) (r .next, x .1 + 1, record { slots = set (x .2 .slots) (r .index) (r .slot) }) (turned (text .now) at notes (s .now) t x f (ltb-true _ _ small) r e (next-fits r is)) $
+        hold ! (Lines (t - 1)) (There l₅ l₆) (r .next, x .1 + 1, withSlot (x .2) (r .index) (r .slot)) (turned (text .now) at notes (s .now) t x f (ltb-true _ _ small) r e (next-fits r is)) $
         once-more ! (λ t′. Some 𝓤 (Lines t′) (There l₅ l₆)) t (t - 1) (fewer (text .now) at notes (s .now) t x f (ltb-true _ _ small))))
         -- the loop is left
         (λ big. exec ! (𝓣 .C) (𝓣 .Λ) (envOf (code.function .locals) (l₀ ∷ l₁ ∷ l₂ ∷ l₃ ∷ l₄ ∷ l₅ ∷ l₆ ∷ l₇ ∷ l₈ ∷ l₉ ∷ l₁₀ ∷ l₁₁ ∷ [])) (after (after (after (code.function .body)))) (atRet (envOf (code.function .locals) (l₀ ∷ l₁ ∷ l₂ ∷ l₃ ∷ l₄ ∷ l₅ ∷ l₆ ∷ l₇ ∷ l₈ ∷ l₉ ∷ l₁₀ ∷ l₁₁ ∷ [])) Post) $

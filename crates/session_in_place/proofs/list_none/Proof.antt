@@ -1,29 +1,29 @@
--- `session_in_place::list_none` meets its contract: a walk of its MIR, by hand. The borrow is opened before the loop, each turn puts the slot of no note to one place, and it is closed after the loop.
+-- `session_in_place::list_none` meets its contract: a walk of its MIR, by hand. The borrow is opened before the loop, each turn puts the slot of no note to one place, and after the loop both counts are set and it is closed.
 -- All that the proof knows of `empty_slot` is that it meets its contract.
 use mathlib.Core.Path.{_≡_, refl, subst}
 use Prim.Native.Nat.{ℕ, _+_, _-_, _*_, _<_, _^_}
 use native.Mathlib.Omega.{arith}
 use mathlib.Core.List.{[], _∷_, List}
 use lib.Dec.{ltb}
-use lib.ListN.{set}
 use borrow.Author.Tests.{ltb-true, ltb-false}
 use mathlib.Core.Bool.{false}
 use prog.Wp.{afterTurn}
 use contract.Running.{tablesOf}
 use denote.Struct.Laws as LL
-use Rattle.walks.proofs.Words.{URA, fullShare, named, w64, tyInt, Val, vunit, vint, vptr, SProp, ent, emp, id⊢, fat, Memory, Routine, Heap, Tables, WpFn, Atoms, fmOf, Lfts, Shares, Fun, factI, givenOf, tables, Given, ‵, raw, _⊛_, Item, _$_, _∵_, !, qed, by, move, keep, drop, split, join, feqI, atRet, look, store, init, forget, stop, hop, fld, from, load, lit, unit-lit, of-opd, no-more, addr, bin, assigns, assigns-last, land, first, blocks, exec, returns, enter, alloc1, alloc0, params1, pass1, pass0, free0, partAt, RefT, ptr-vals, mut-tells, plain, Contract, Triple, onEntry, tripleOf, cited, Stays, stay-ref, walkOf, goes-ref}
-use Rattle.walks.proofs.Borrow.{rowOf, machine, typed, opened, closed, known, gone, unused}
+use Rattle.walks.proofs.Words.{URA, fullShare, named, w64, tyInt, Val, vunit, vint, vptr, SProp, ent, emp, id⊢, fat, Memory, Routine, Heap, Tables, WpFn, Atoms, fmOf, Lfts, Shares, Fun, factI, givenOf, tables, Given, ‵, raw, _⊛_, Item, _$_, _∵_, !, qed, by, move, keep, drop, split, join, feqI, atRet, look, store, init, forget, stop, hop, fld, from, load, lit, unit-lit, of-opd, no-more, addr, bin, assigns, assigns-last, land, first, blocks, exec, returns, enter, alloc1, alloc0, params1, pass1, pass0, free0, whole, sub, store-in, partAt, RefT, ptr-vals, mut-tells, plain, Contract, Triple, onEntry, tripleOf, cited, Stays, stay-ref, walkOf, goes-ref}
+use Rattle.walks.proofs.Borrow.{rowOf, machine, typed, opened, closed, known, out, into, gone, unused}
 use Rattle.walks.proofs.Calls.{arrives, asks}
 use Rattle.walks.proofs.Loops.{after, envOf, Some, held, hold, turning, once-more, tests}
 use Rattle.walks.proofs.Ends.{ends, stands}
 use Rattle.slots.specs.Slots.{emptySlot}
 use Rattle.slots.specs.declared.Slot.{Slot}
 use Rattle.session.specs.declared.Session.{Session}
+use Rattle.sheet.proofs.Filling.{withSlot}
 use Rattle.slots.proofs.empty_slot as empty
 use Rattle.slots.proofs.empty_slot.Symbol as empty-def
 use Rattle.slots.proofs.empty_slot.Symbol.{name as #empty}
 use Rattle.slots.proofs.empty_slot.Met as empty-thm
-use Rattle.session_in_place.proofs.Structs.{OneSlot, AllSlots, all-slots}
+use Rattle.session_in_place.proofs.Structs.{OneSlot, AllSlots, withCounts, all-slots, counted}
 use Rattle.session_in_place.proofs.Slots.{sets-slot, slot-back}
 use Rattle.session_in_place.proofs.Filling.{Emptied, one-more, all-empty}
 use Rattle.session_in_place.proofs.list_none.Key.{name as #list-none}
@@ -44,14 +44,14 @@ further i l = omega arith
 abbrev Left : ℕ → ℕ × Session → Type 0
 Left t x = (x .0 + t ≡ 32) × Emptied (x .0) (x .1)
 
-turned : (t : ℕ) (x : ℕ × Session) → x .0 < 32 → (e : Slot) → e ≡ emptySlot → Left t x → Left (t - 1) (x .0 + 1, record { slots = set (x .1 .slots) (x .0) e })
+turned : (t : ℕ) (x : ℕ × Session) → x .0 < 32 → (e : Slot) → e ≡ emptySlot → Left t x → Left (t - 1) (x .0 + 1, withSlot (x .1) (x .0) e)
 turned t x l e is f = (omega (arith, f .0), rw is (one-more (x .0) (x .1) l (f .1)))
 
 fewer : (t : ℕ) (x : ℕ × Session) → x .0 < 32 → Left t x → t - 1 < t
 fewer t x l f = omega (arith, f .0)
 
-whole : (t : ℕ) (x : ℕ × Session) → ltb (x .0) 32 ≡ false → Left t x → Emptied 32 (x .1)
-whole t x big f = let all : x .0 ≡ 32 = omega (arith, f .0, ltb-false (x .0) 32 big) in subst (λ (n : ℕ). Emptied n (x .1)) all (f .1)
+all-emptied : (t : ℕ) (x : ℕ × Session) → ltb (x .0) 32 ≡ false → Left t x → Emptied 32 (x .1)
+all-emptied t x big f = let all : x .0 ≡ 32 = omega (arith, f .0, ltb-false (x .0) 32 big) in subst (λ (n : ℕ). Emptied n (x .1)) all (f .1)
 
 module _ {M : Type 1} (𝓤 : URA M) (H : Heap 𝓤) (A : Atoms 𝓤) (W : Given 𝓤 H A) (mem : Memory → SProp 𝓤) (run : Routine → Fun 𝓤) (κs : Lfts 1) (qs : Shares 1) (s : RefT Session) where
   abbrev a : RefT Session × Unit {0}
@@ -97,18 +97,23 @@ module _ {M : Type 1} (𝓤 : URA M) (H : Heap 𝓤) (A : Atoms 𝓤) (W : Given
         move ! (1 ∷ []) $ sets-slot ! fullShare (s .ptr) (x .1) (x .0) (ltb-true _ _ small) e $
         -- [the slot; what takes another back; the counter; the open borrow; _7; …; _4; …; …; _2; …; _1; …; room for _0; …]
         assigns ! (of-opd ! (load ! (from ! (stop !)) (look ! 13 refl))) (from ! (hop ! (look ! 4 refl) (stop !))) (store ! 0 refl (typed OneSlot 𝓤 H A W e is)) $
-        slot-back ! fullShare (s .ptr) (x .0) (record { slots = set (x .1 .slots) (x .0) e }) e is $ move ! (1 ∷ 0 ∷ []) $
+        slot-back ! fullShare (s .ptr) (x .0) (withSlot (x .1) (x .0) e) e is $ move ! (1 ∷ 0 ∷ []) $
         assigns-last ! (bin ! (load ! (from ! (stop !)) (look ! 0 refl)) (lit ! tt) (record { fits = further (x .0) (ltb-true _ _ small) })) (from ! (stop !)) (store ! 0 refl (tt, record { fits = further (x .0) (ltb-true _ _ small) })) $
         forget ! 3 refl $ forget ! 5 refl $ forget ! 7 refl $ forget ! 9 refl $ join ! $
-        hold ! (Left (t - 1)) (There l₃) (x .0 + 1, record { slots = set (x .1 .slots) (x .0) e }) (turned t x (ltb-true _ _ small) e e-is f) $ once-more ! (λ t′. Some 𝓤 (Left t′) (There l₃)) t (t - 1) (fewer t x (ltb-true _ _ small) f))
+        hold ! (Left (t - 1)) (There l₃) (x .0 + 1, withSlot (x .1) (x .0) e) (turned t x (ltb-true _ _ small) e e-is f) $ once-more ! (λ t′. Some 𝓤 (Left t′) (There l₃)) t (t - 1) (fewer t x (ltb-true _ _ small) f))
         -- the loop is left
         (λ big. exec ! (𝓣 .C) (𝓣 .Λ) (envOf (code.function .locals) (l₀ ∷ l₁ ∷ l₂ ∷ l₃ ∷ l₄ ∷ l₅ ∷ l₆ ∷ l₇ ∷ [])) (after (after (after (code.function .body)))) (atRet (envOf (code.function .locals) (l₀ ∷ l₁ ∷ l₂ ∷ l₃ ∷ l₄ ∷ l₅ ∷ l₆ ∷ l₇ ∷ [])) Post) $
+        move ! (1 ∷ []) $ out ! AllSlots fullShare (x .1) (λ x-is.
+        -- [the session's cell; the counter; the open borrow; _7; …; _4; …; …; _2; …; _1; …; room for _0; …]
+        assigns ! (of-opd ! (lit ! tt)) (from ! (hop ! (look ! 14 refl) (fld ! refl (stop !)))) (store-in ! 0 (sub ! 1 refl (whole !)) (tt, record { fits = omega arith })) $
+        assigns ! (of-opd ! (lit ! tt)) (from ! (hop ! (look ! 14 refl) (fld ! refl (stop !)))) (store-in ! 0 (sub ! 2 refl (whole !)) (tt, record { fits = omega arith })) $
+        into ! AllSlots fullShare (withCounts (x .1) 0 0) (counted (x .1) x-is 0 0 (omega arith) (omega arith)) $
         assigns ! (of-opd ! (unit-lit !)) (from ! (stop !)) (init ! 16 refl (tt, tt)) $
-        move ! (1 ∷ 2 ∷ []) $ closed ! tt AllSlots (named 0) s (x .1) $
+        move ! (0 ∷ 2 ∷ []) $ closed ! tt AllSlots (named 0) s (withCounts (x .1) 0 0) $
         -- [s; its token; the counter; _7; …; _4; …; …; _2; …; _1; …; _0; …]
         returns ! (look ! 16 refl) $ gone ! 16 refl refl $ gone ! 14 refl refl $ gone ! 12 refl refl $ move ! (2 ∷ 11 ∷ []) $ gone ! 0 refl refl $ gone ! 8 refl refl $ unused ! 6 refl refl $ unused ! 4 refl refl $ unused ! 2 refl refl $ free0 ! $
         feqI ! (List Val) (vunit ∷ []) (vunit ∷ []) refl $ keep ! (2 ∷ 1 ∷ 0 ∷ []) $
-        by ! (ends 𝓤 H A W none.ended stayed (none.clauses 𝓤 H A mem run) y vunit tt (x .1, tt) (tt, tt) (factI 𝓤 _ (emp 𝓤) (all-empty (x .1) (whole t x big f))))))) 32))))))))))
+        by ! (ends 𝓤 H A W none.ended stayed (none.clauses 𝓤 H A mem run) y vunit tt (withCounts (x .1) 0 0, tt) (tt, tt) (factI 𝓤 _ (emp 𝓤) (all-empty (x .1) (all-emptied t x big f)))))))) 32))))))))))
 
 pub list-none-spec : {M : Type 1} → stated.statement M
 unfolding code.routine tablesOf

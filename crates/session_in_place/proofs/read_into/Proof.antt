@@ -1,4 +1,4 @@
--- `session_in_place::read_into` meets its contract: a walk of its MIR, by hand. A reader of the text judges it and reads its header; the session behind the reference is lent on to `list_none` and to `fill`, and comes back from each at the session that it left there.
+-- `session_in_place::read_into` meets its contract: a walk of its MIR, by hand. A reader of the text judges it and reads its header; the session behind the reference is lent on to `list_none` and to `fill`, and comes back from each at the session that it left there; then the listed count is set.
 -- All that the proof knows of the functions that it calls is that each meets its contract.
 use mathlib.Core.Path.{_≡_, refl, _∙_}
 use Prim.Native.Nat.{ℕ}
@@ -6,8 +6,8 @@ use mathlib.Core.List.{[], _∷_, List}
 use lib.ListN.{length}
 use contract.Running.{tablesOf}
 use denote.Struct.Laws as LL
-use Rattle.walks.proofs.Words.{URA, fullShare, named, erased, w32, w64, Val, vunit, vint, vptr, SProp, ent, emp, id⊢, Fml, Memory, Routine, Heap, Calls, Loops, WpFn, Atoms, FmC, Lfts, Shares, Fun, factI, givenOf, tables, Given, ‵, raw, _⊛_, _$_, _∵_, !, qed, by, move, keep, drop, use1, split, fsplit, look, store, init, stop, hop, fld, from, load, of-opd, and-then, no-more, addr, assigns, land, returns, enter, alloc1, alloc0, params1, pass1, pass0, free0, whole, sub, look-in, Is, uint-makes, u8, u32, usize, RefT, NamedLft, namedLft, ptr-vals, mut-tells, plain, sliceVal, ShrSlice, slice-vals, shr-slice-tells, shr-slice-lawful, shr-slice-copy, owned, Contract, Triple, onEntry, tripleOf, cited, Stays, stay-ref, stay-none-slice, walkOf, goes-ref, goes-none-slice, yes}
-use Rattle.walks.proofs.Borrow.{rowOf, machine, typed, made, opened, closed, gone}
+use Rattle.walks.proofs.Words.{URA, fullShare, named, erased, w32, w64, Val, vunit, vint, vptr, SProp, ent, emp, id⊢, Fml, Memory, Routine, Heap, Calls, Loops, WpFn, Atoms, FmC, Lfts, Shares, Fun, factI, givenOf, tables, Given, ‵, raw, _⊛_, _$_, _∵_, !, qed, by, move, keep, drop, use1, split, fsplit, look, store, init, stop, hop, fld, from, load, of-opd, and-then, no-more, addr, assigns, land, returns, enter, alloc1, alloc0, params1, pass1, pass0, free0, whole, sub, look-in, store-in, Is, u8, RefT, NamedLft, namedLft, ptr-vals, mut-tells, plain, sliceVal, ShrSlice, slice-vals, shr-slice-tells, shr-slice-lawful, shr-slice-copy, Contract, Triple, onEntry, tripleOf, cited, Stays, stay-ref, stay-none-slice, walkOf, goes-ref, goes-none-slice, yes}
+use Rattle.walks.proofs.Borrow.{rowOf, machine, typed, made, made-uint, opened, closed, out, into, gone}
 use Rattle.walks.proofs.Calls.{arrives, asks, asks-last}
 use Rattle.walks.proofs.Lend.{lentAs, lends, regains}
 use Rattle.walks.proofs.Ends.{ends, stands}
@@ -19,7 +19,7 @@ use Rattle.sheet.specs.declared.Start.{Start}
 use Rattle.reader.specs.Reader.{beginOf, headerRead}
 use Rattle.reader.specs.declared.SheetReader.{SheetReader}
 use Rattle.reader.specs.declared.HeaderRead.{HeaderRead}
-use Rattle.reader.proofs.Holding.{typeAt, lawsAt, machineOf, OwnReader, reader-typed, twice}
+use Rattle.reader.proofs.Holding.{typeAt, lawsAt, machineOf, reader-typed, twice}
 use Rattle.reader.proofs.HeaderRead as N
 use Rattle.reader.proofs.HeaderRead.Laws as N′
 use Rattle.reader.proofs.begin as begin
@@ -34,9 +34,9 @@ use Rattle.reader.proofs.header as header
 use Rattle.reader.proofs.header.Symbol as header-def
 use Rattle.reader.proofs.header.Symbol.{name as #header}
 use Rattle.reader.proofs.header.Met as header-thm
-use Rattle.sheet.specs.Filling.{start}
+use Rattle.sheet.specs.Filling.{start, withListed}
 use Rattle.session_in_place.proofs.Sheets.{answered}
-use Rattle.session_in_place.proofs.Structs.{AllSlots, Judged, Number, Begun, at-fits, notes-fit}
+use Rattle.session_in_place.proofs.Structs.{AllSlots, Judged, Number, Begun, opened-fits, counted, at-fits, notes-fit, count-fits}
 use Rattle.sheet.proofs.start_of as start-of
 use Rattle.sheet.proofs.start_of.Symbol as start-of-def
 use Rattle.sheet.proofs.start_of.Symbol.{name as #start-of}
@@ -60,7 +60,7 @@ stayed = (stay-ref (0 ∷ []) tt (plain (λ _. rowOf AllSlots)), (stay-none-slic
 -- what a reader at the text's start judges and reads, it judges and reads of the text
 by-reader : (text : RefT (List ℕ)) (b : SheetReader) (v : Verdict) (h : HeaderRead) (from : Start) (s₀ s : Session) → b ≡ beginOf text
     → v ≡ judged (b .text .now) (b .at) → h ≡ headerRead b → from ≡ start (h .field) v → s₀ ≡ emptySession
-    → s ≡ withNotes s₀ (entriesAt (from .notes) (text .now) (from .at)) → (v ≡ sheetOf (text .now) .verdict) × (s ≡ sheetOf (text .now) .session)
+    → s ≡ withNotes s₀ (entriesAt (from .notes) (text .now) (from .at)) → (v ≡ sheetOf (text .now) .verdict) × (withListed s (from .listed) ≡ sheetOf (text .now) .session)
 unfolding beginOf headerRead
 by-reader text b v h from s₀ s eb ev eh ef e₀ es =
     let header : h .field ≡ headerAt (text .now) 0 = rw (eh, eb) in
@@ -151,17 +151,21 @@ module _ {M : Type 1} (𝓤 : URA M) (H : Heap 𝓤) (A : Atoms 𝓤) (W : Given
         -- and again, and the lines' notes are listed
         lends ! tt AllSlots (named 0) (ws .0) (s .ptr .0) (s .ptr .1) (λ ν′ γ′.
         move ! (5 ∷ []) $ use1 W (‵ Text ⊛ ‵ Text) (shr-slice-copy 𝓤 H A W (named 1) (κs .1 .0) u8 .twice text (v ∷ [])) $ split ! $
-        owned ! u32 (Is u32) (uint-makes 𝓤 H A W w32) (f .notes) (vint w32 (f .notes) ∷ []) (refl, notes-fit f f-is) $ owned ! usize (Is usize) (uint-makes 𝓤 H A W w64) (f .at) (vint w64 (f .at) ∷ []) (refl, at-fits f f-is) $ move ! (5 ∷ 8 ∷ 4 ∷ 2 ∷ 0 ∷ 1 ∷ []) $
+        made-uint ! w32 (f .notes) (notes-fit f f-is) $ made-uint ! w64 (f .at) (at-fits f f-is) $ move ! (5 ∷ 8 ∷ 4 ∷ 2 ∷ 0 ∷ 1 ∷ []) $
         asks-last W fill.ended (ν′ ∷ [], (κs .1 .0, tt)) (fullShare, (qs .1 .0, tt)) (lentAs AllSlots (s .ptr .0) (s .ptr .1) γ′ (ws .0), (text, (f .at, (f .notes, tt)))) (at ∷ [], (v ∷ [], (vint w64 (f .at) ∷ [], (vint w32 (f .notes) ∷ [], tt)))) (fill.clauses 𝓤 H A mem run) tt tt (λ _. vunit) (λ r vs is. is)
         (λ r ws′. ws′ .0 ≡ withNotes (ws .0) (entriesAt (f .notes) (text .now) (f .at))) ! fm fills (id⊢ 𝓤 (emp 𝓤)) (λ r ws. id⊢ 𝓤 _)
         (and-then ! (load ! (from ! (stop !)) (look ! 4 refl)) (and-then ! (load ! (from ! (stop !)) (look ! 24 refl)) (and-then ! (load ! (from ! (fld ! refl (stop !))) (look-in ! 16 (sub ! 0 refl (whole !)))) (and-then ! (load ! (from ! (fld ! refl (stop !))) (look-in ! 16 (sub ! 1 refl (whole !)))) (no-more !))))) (λ r′ ws′ e _.
         land ! (from ! (stop !)) (store ! 11 refl (tt, tt)) $ fsplit ! $ move ! (2 ∷ 6 ∷ 0 ∷ []) $ regains ! tt AllSlots (ws′ .0) (s .ptr .0) (s .ptr .1) $
-        -- [the session; …; text's token; …; text; the open borrow; _12; …; _0; …]
+        -- and how many these are is set
+        out ! AllSlots fullShare (ws′ .0) (λ s-is.
+        -- [the session's cell; …; text's token; …; text; the open borrow; _12; …; _0; …]
+        assigns ! (of-opd ! (load ! (from ! (fld ! refl (stop !))) (look-in ! 18 (sub ! 2 refl (whole !))))) (from ! (hop ! (look ! 28 refl) (fld ! refl (stop !)))) (store-in ! 0 (sub ! 1 refl (whole !)) (tt, record { fits = count-fits f f-is })) $
+        into ! AllSlots fullShare (withListed (ws′ .0) (f .listed)) (counted (ws′ .0) s-is (f .listed) (ws′ .0 .opened) (count-fits f f-is) (opened-fits (ws′ .0) s-is)) $
         assigns ! (of-opd ! (load ! (from ! (stop !)) (look ! 22 refl))) (from ! (stop !)) (init ! 30 refl (typed Judged 𝓤 H A W j is)) $
-        move ! (0 ∷ 5 ∷ []) $ closed ! tt AllSlots (named 0) s (ws′ .0) $
+        move ! (0 ∷ 5 ∷ []) $ closed ! tt AllSlots (named 0) s (withListed (ws′ .0) (f .listed)) $
         returns ! (look ! 30 refl) $ gone ! 30 refl refl $ gone ! 28 refl refl $ gone ! 26 refl refl $ gone ! 24 refl refl $ gone ! 22 refl refl $ gone ! 20 refl refl $ gone ! 18 refl refl $ gone ! 16 refl refl $ gone ! 14 refl refl $ gone ! 12 refl refl $ gone ! 10 refl refl $ gone ! 8 refl refl $ gone ! 6 refl refl $ free0 ! $
         made ! Judged j is $ keep ! (2 ∷ 4 ∷ 1 ∷ 6 ∷ 0 ∷ []) $
-        by ! (ends 𝓤 H A W into.ended stayed (into.clauses 𝓤 H A mem run) y (machine Judged j) j (ws′ .0, (tt, tt)) (tt, (tt, tt)) (factI 𝓤 _ (emp 𝓤) (by-reader text b j h f (ws .0) (ws′ .0) eb ej eh ef e₀ e))))))))))))))))))))))))
+        by ! (ends 𝓤 H A W into.ended stayed (into.clauses 𝓤 H A mem run) y (machine Judged j) j (withListed (ws′ .0) (f .listed), (tt, tt)) (tt, (tt, tt)) (factI 𝓤 _ (emp 𝓤) (by-reader text b j h f (ws .0) (ws′ .0) eb ej eh ef e₀ e)))))))))))))))))))))))))
 
 pub read-into-spec : {M : Type 1} → stated.statement M
 unfolding code.routine tablesOf

@@ -10,8 +10,8 @@ use borrow.Author.Tests.{ltb-true}
 use prog.Wp.{afterTurn}
 use contract.Running.{tablesOf}
 use denote.Struct.Laws as LL
-use Rattle.walks.proofs.Words.{URA, fullShare, named, w64, tyInt, Val, vint, vptr, SProp, ent, emp, id⊢, fat, Memory, Routine, Heap, Tables, WpFn, Atoms, fmOf, Lfts, Shares, Fun, factI, givenOf, tables, Given, ‵, raw, _⊛_, Item, _$_, _∵_, !, qed, by, move, keep, drop, split, join, atRet, look, store, init, forget, stop, hop, fld, from, load, lit, of-opd, and-then, no-more, addr, bin, assigns, assigns-last, land, first, blocks, exec, returns, enter, alloc1, alloc0, params1, pass1, pass0, free0, Is, uint-makes, usize, RefT, ptr-vals, shr-tells, plain, owned, Contract, Triple, onEntry, tripleOf, cited, Stays, stay-none-ref, walkOf, goes-none-ref, yes}
-use Rattle.walks.proofs.Borrow.{rowOf, cell, machine, typed, made, looked, shut, gone, unused, IsData}
+use Rattle.walks.proofs.Words.{URA, fullShare, named, w64, tyInt, Val, vint, vptr, SProp, ent, emp, id⊢, fat, Memory, Routine, Heap, Tables, WpFn, Atoms, fmOf, Lfts, Shares, Fun, factI, givenOf, tables, Given, ‵, raw, _⊛_, Item, _$_, _∵_, !, qed, by, move, keep, drop, split, join, atRet, look, store, init, forget, stop, hop, fld, from, load, lit, of-opd, and-then, no-more, addr, bin, assigns, assigns-last, land, first, blocks, exec, returns, enter, alloc1, alloc0, params1, pass1, pass0, free0, RefT, ptr-vals, shr-tells, plain, Contract, Triple, onEntry, tripleOf, cited, Stays, stay-none-ref, walkOf, goes-none-ref, yes}
+use Rattle.walks.proofs.Borrow.{rowOf, cell, machine, typed, made, made-uint, looked, shut, gone, unused, IsData}
 use Rattle.walks.proofs.Calls.{arrives, asks}
 use Rattle.walks.proofs.Loops.{after, envOf, Some, held, hold, turning, once-more, tests}
 use Rattle.walks.proofs.Ends.{ends, stands}
@@ -98,7 +98,7 @@ module _ {M : Type 1} (𝓤 : URA M) (H : Heap 𝓤) (A : Atoms 𝓤) (W : Given
         assigns ! (of-opd ! (load ! (from ! (stop !)) (look ! 6 refl))) (from ! (stop !)) (init ! 16 refl (typed OneSlot 𝓤 H A W (slot (x .1)) slot-is)) $
         slot-back ! q′ (s .ptr) (x .1) (s .now) (slot (x .1)) slot-is $
         -- [the share; what is found; the counter; the open borrow; s; _9; …]: all three are passed to `with_slot`
-        made ! OneSlot (slot (x .1)) slot-is $ owned ! usize (Is usize) (uint-makes 𝓤 H A W w64) (x .1) (vint w64 (x .1) ∷ []) (refl, further (x .1) (ltb-true _ _ small) .0) $ made ! Surveyed (x .0) (f .1) $
+        made ! OneSlot (slot (x .1)) slot-is $ made-uint ! w64 (x .1) (further (x .1) (ltb-true _ _ small) .0) $ made ! Surveyed (x .0) (f .1) $
         asks W with-slot.ended tt tt (x .0, (x .1, (slot (x .1), tt))) (machine Surveyed (x .0) ∷ [], (vint w64 (x .1) ∷ [], (machine OneSlot (slot (x .1)) ∷ [], tt))) (with-slot.clauses 𝓤 H A mem run) tt tt (machine Surveyed) (LL.tells (Surveyed .type) (Surveyed .laws))
         (λ r. (r ≡ withSlot (x .0) (x .1 + 1) (slot (x .1))) × (r .notes ≤ x .1 + 1) × (r .size ≤ (x .1 + 1) * 109)) !
         (fmOf 𝓤 H (W .laws) 𝓣) counts (factI 𝓤 _ (emp 𝓤) (ltb-true _ _ small, f .0 .2, f .0 .3)) (λ r ws. id⊢ 𝓤 _) (and-then ! (load ! (from ! (stop !)) (look ! 2 refl)) (and-then ! (load ! (from ! (stop !)) (look ! 3 refl)) (and-then ! (load ! (from ! (stop !)) (look ! 16 refl)) (no-more !)))) (λ r r-says r-is. drop ! $

@@ -10,8 +10,8 @@ use borrow.Author.Tests.{ltb-true}
 use prog.Wp.{afterTurn}
 use contract.Running.{tablesOf}
 use denote.Struct.Laws as LL
-use Rattle.walks.proofs.Words.{URA, fullShare, named, erased, w64, tyInt, Val, vint, vptr, SProp, ent, emp, id⊢, Fml, fat, Memory, Routine, Heap, Tables, WpFn, Atoms, fmOf, Lfts, Shares, Fun, factI, givenOf, tables, Given, ‵, raw, _⊛_, Item, _$_, _∵_, !, qed, by, move, keep, drop, use1, split, fsplit, join, atRet, look, store, init, forget, stop, hop, fld, from, load, lit, of-opd, and-then, no-more, addr, agg, bin, assigns, assigns-last, land, first, blocks, exec, returns, enter, alloc1, alloc0, params1, pass1, pass0, free0, whole, sub, look-in, Is, uint-makes, uint-tells, u8, usize, RefT, ShrRef, at-last, ptr-vals, shr-tells, shr-copy, plain, sliceVal, MutSlice, slice-vals, mut-slice-tells, mut-slice-lawful, owned, Contract, Triple, onEntry, tripleOf, cited, Stays, stay-none-ref, stay-slice, walkOf, goes-none-ref, goes-slice, yes}
-use Rattle.walks.proofs.Borrow.{rowOf, machine, typed, made, looked, shut, gone, unused}
+use Rattle.walks.proofs.Words.{URA, fullShare, named, erased, w64, tyInt, Val, vint, vptr, SProp, ent, emp, id⊢, Fml, fat, Memory, Routine, Heap, Tables, WpFn, Atoms, fmOf, Lfts, Shares, Fun, factI, givenOf, tables, Given, ‵, raw, _⊛_, Item, _$_, _∵_, !, qed, by, move, keep, drop, use1, split, fsplit, join, atRet, look, store, init, forget, stop, hop, fld, from, load, lit, of-opd, and-then, no-more, addr, agg, bin, assigns, assigns-last, land, first, blocks, exec, returns, enter, alloc1, alloc0, params1, pass1, pass0, free0, whole, sub, look-in, Is, uint-tells, u8, RefT, ShrRef, at-last, ptr-vals, shr-tells, shr-copy, plain, sliceVal, MutSlice, slice-vals, mut-slice-tells, mut-slice-lawful, Contract, Triple, onEntry, tripleOf, cited, Stays, stay-none-ref, stay-slice, walkOf, goes-none-ref, goes-slice, yes}
+use Rattle.walks.proofs.Borrow.{rowOf, machine, typed, made, made-uint, looked, shut, gone, unused}
 use Rattle.walks.proofs.Calls.{arrives, asks, asks-last}
 use Rattle.walks.proofs.Slices.{lent-on, lends-on, comes-back}
 use Rattle.walks.proofs.Loops.{after, envOf, Some, held, hold, turning, once-more, tests}
@@ -187,7 +187,7 @@ module _ {M : Type 1} (𝓤 : URA M) (H : Heap 𝓤) (A : Atoms 𝓤) (W : Given
         assigns ! (agg ! (and-then ! (load ! (from ! (stop !)) (look ! 9 refl)) (and-then ! (load ! (from ! (fld ! refl (stop !))) (look-in ! 33 (sub ! 1 refl (whole !)))) (no-more !)))) (from ! (stop !)) (init ! 7 refl (mut-slice-lawful 𝓤 H A W erased (κs .1 .0) u8 .typed buffer (v ∷ []) p .0)) $
         -- the buffer is lent on, and the slot's line is laid
         move ! (2 ∷ 6 ∷ []) $ lends-on ! tt u8 (named 1) (named 0) (at-last buffer (x .2)) v (same-value found g (ws .0) (found-says .0, g-says .0, g-says .1) t x f) (λ ν₁ γ₁.
-        made ! OneSlot (slot (x .1)) slot-is $ owned ! usize (Is usize) (uint-makes 𝓤 H A W w64) (x .1) (vint w64 (x .1) ∷ []) (refl, further (x .1) (in-session found g (ws .0) (found-says .0, g-says .0, g-says .1) t x f small) .0) $ owned ! usize (Is usize) (uint-makes 𝓤 H A W w64) (x .0) (vint w64 (x .0) ∷ []) (refl, f .1) $ move ! (4 ∷ 3 ∷ 0 ∷ 1 ∷ 2 ∷ []) $
+        made ! OneSlot (slot (x .1)) slot-is $ made-uint ! w64 (x .1) (further (x .1) (in-session found g (ws .0) (found-says .0, g-says .0, g-says .1) t x f small) .0) $ made-uint ! w64 (x .0) (f .1) $ move ! (4 ∷ 3 ∷ 0 ∷ 1 ∷ 2 ∷ []) $
         asks-last W put-slot.ended (ν₁ ∷ [], tt) (fullShare, tt) (lent-on u8 (at-last buffer (x .2)) γ₁, (x .0, (x .1, (slot (x .1), tt)))) (v ∷ [], (vint w64 (x .0) ∷ [], (vint w64 (x .1) ∷ [], (machine OneSlot (slot (x .1)) ∷ [], tt)))) (put-slot.clauses 𝓤 H A mem run) tt tt (vint w64) (uint-tells w64)
         (λ r ws′. (r ≡ x .0 + length (line (x .1))) × (ws′ .0 ≡ copied (x .2) (x .0) (line (x .1)))) !
         (fmOf 𝓤 H (W .laws) 𝓣) puts (factI 𝓤 _ (emp 𝓤) (in-session found g (ws .0) (found-says .0, g-says .0, g-says .1) t x f small, line-fits found g (ws .0) (found-says .0, g-says .0, g-says .1) t x f small)) (λ r ws. id⊢ 𝓤 _)

@@ -24,10 +24,11 @@ mul-after c = let low = set-from c in search needs
 returns : tie.Need-returns
 unfolding deliver deliverAt
 returns c =
-    let indexed = c .before .before .before .before in
+    let step = c .before .before .before in
+    let indexed = step .before .before in
     let start = indexed .before .before in
     let all : length (start .args .t1 .slots) ≡ 32 = search (needs, length-of-image, start .good) in
-    put-there _ _ all _ _ (indexed .slot-index .ensures) _ _ (c .before .before .deliver-at .ensures)
+    put-there _ _ all _ _ (indexed .slot-index .ensures) _ _ _ (step .deliver-at .ensures) (c .open-after .ensures)
 
 pub deliver-spec : {M : Type 1} → statement M
-deliver-spec = tie.close (tie.spec (λ c κs. search needs) mul-slot copy (λ c κs. search needs) mul-after set-from returns)
+deliver-spec = tie.close (tie.spec (λ c κs. search needs) mul-slot copy (λ c κs. search needs) mul-after set-from (λ c κs. search needs) returns)
