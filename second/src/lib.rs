@@ -20,4 +20,5 @@ pub mod session;
 pub mod sheet;
 pub mod sm3;
 pub mod vectors;
+pub mod walk;
 pub mod writing;

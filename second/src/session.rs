@@ -1,4 +1,4 @@
-//! The loading session: 32 slots, deliveries and questions.
+//! The loading session: 32 slots and two counts, deliveries and questions.
 
 use crate::hash::State;
 use crate::refusal::{ACCEPTED, DECIDED, PAST_LENGTH, SLOT_NOT_IN_ORDER, UNLISTED};
@@ -32,10 +32,15 @@ pub struct Slot {
     pub status: u8,
 }
 
-/// The slot of note 1 is the first.
+/// The slot of note 1 is the first. The counts are as free as the slots: a
+/// stored session may hold any two, whatever its slots say.
 #[derive(Clone, Copy, Debug, PartialEq, Eq)]
 pub struct Session {
     pub slots: [Slot; NOTES as usize],
+    /// How many notes are listed.
+    pub listed: u8,
+    /// How many notes are open.
+    pub open: u8,
 }
 
 /// A number, a status, and bytes taken.
@@ -123,10 +128,12 @@ impl Session {
     pub const fn unlisted() -> Session {
         Session {
             slots: [Slot::UNLISTED; NOTES as usize],
+            listed: 0,
+            open: 0,
         }
     }
 
-    /// Lists a note of 1..32, waiting, with its record.
+    /// Lists a note of 1..32 that is not listed yet, waiting, with its record.
     pub fn list(&mut self, note: u64, record: Record) {
         let place = Session::place(note).expect("the sheet's rule 2 is judged before");
         self.slots[place] = Slot {
@@ -134,6 +141,7 @@ impl Session {
             state: State::fresh(),
             status: WAITING,
         };
+        self.listed += 1;
     }
 
     /// Delivers a piece to a note.
@@ -142,8 +150,21 @@ impl Session {
             Err(number) => refused(number),
             Ok(place) => {
                 let number = self.slots[place].deliver(piece);
-                self.answer(number, place)
+                let answer = self.answer(number, place);
+                // What is accepted came to a note that was waiting.
+                if answer.number == ACCEPTED && answer.status == OPEN {
+                    self.count_open();
+                }
+                answer
             }
+        }
+    }
+
+    /// One note more is open. No session has more than 32: a stored count of so
+    /// many, or of more, stays.
+    fn count_open(&mut self) {
+        if u64::from(self.open) < NOTES {
+            self.open += 1;
         }
     }
 
@@ -153,6 +174,11 @@ impl Session {
             Err(number) => refused(number),
             Ok(place) => self.answer(ACCEPTED, place),
         }
+    }
+
+    /// Whether every listed note is open, by the two counts alone.
+    pub fn ready(&self) -> bool {
+        self.listed == self.open && self.listed != 0
     }
 
     /// The place of a listed slot in order, or what refuses it.

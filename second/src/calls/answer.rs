@@ -42,6 +42,7 @@ pub fn answer(call: &Call) -> Option<String> {
             ..
         } => deliver(session, *note, piece),
         Call::Ask { session, note, .. } => Some(answer_text(&session.ask(*note))),
+        Call::Ready { session } => Some(ready_text(session.ready())),
         Call::SheetWrite { session, buffer } => Some(sheet_write(session, buffer)),
         Call::Line { line } => answer_line(line),
     }
@@ -253,6 +254,10 @@ pub fn sheet_text(sheet: &Sheet) -> String {
 
 pub fn delivered_text(answer: &Answer, after: &Session) -> String {
     format!("{}\t{}", answer_text(answer), session_text(after))
+}
+
+pub fn ready_text(ready: bool) -> String {
+    u8::from(ready).to_string()
 }
 
 pub fn answer_text(answer: &Answer) -> String {

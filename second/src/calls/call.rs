@@ -63,6 +63,9 @@ pub enum Call {
         session: Box<Session>,
         note: u64,
     },
+    Ready {
+        session: Box<Session>,
+    },
     SheetWrite {
         session: Box<Session>,
         buffer: Vec<u8>,
@@ -91,6 +94,7 @@ impl Call {
             }
             Call::Deliver { in_place, .. } => either(*in_place, "deliver_in_place", "deliver"),
             Call::Ask { in_place, .. } => either(*in_place, "ask_in_place", "ask"),
+            Call::Ready { .. } => "ready",
             Call::SheetWrite { .. } => "sheet_write",
             Call::Line { .. } => "line",
         }
@@ -128,6 +132,7 @@ impl Call {
                 ..
             } => vec![session_text(session), note.to_string(), lent_text(piece)],
             Call::Ask { session, note, .. } => vec![session_text(session), note.to_string()],
+            Call::Ready { session } => vec![session_text(session)],
             Call::SheetWrite { session, buffer } => {
                 vec![session_text(session), bytes_text(buffer)]
             }
@@ -237,6 +242,9 @@ fn session_call(name: &str, arguments: &[&str]) -> Option<Call> {
             in_place: name == "ask_in_place",
             session: session(before)?,
             note: values::parse_number(note)?,
+        }),
+        ("ready", [counted]) => Some(Call::Ready {
+            session: session(counted)?,
         }),
         ("sheet_write", [slots, buffer]) => Some(Call::SheetWrite {
             session: session(slots)?,

@@ -1,7 +1,7 @@
 //! The kinds of calls, and which call comes at an index.
 
 use crate::calls::call::Call;
-use crate::calls::{lines, paddings, sessions, states, writings};
+use crate::calls::{lights, lines, paddings, sessions, states, writings};
 use crate::making::random::Random;
 use crate::making::turns::{turn, Weighted};
 
@@ -42,7 +42,7 @@ impl Weighted for Kind {
     }
 }
 
-const KINDS: [Kind; 36] = [
+const KINDS: [Kind; 37] = [
     kind("fresh", "fresh", 1, states::fresh),
     kind("fold", "fold", 4, states::fold),
     kind("update", "update", 12, states::update),
@@ -58,11 +58,12 @@ const KINDS: [Kind; 36] = [
     kind("remove_part", "remove", 10, paddings::remove),
     kind("sheet_read", "sheet", 14, sessions::sheet_read),
     kind("sheet_read_in_place", "sheet", 14, sessions::sheet_read),
-    kind("deliver", "deliver", 18, sessions::deliver),
-    kind("deliver_in_place", "deliver", 18, sessions::deliver),
-    kind("ask", "ask", 13, sessions::ask),
-    kind("ask_in_place", "ask", 13, sessions::ask),
-    kind("sheet_write", "write", 14, writings::sheet_write),
+    kind("deliver", "deliver", 24, sessions::deliver),
+    kind("deliver_in_place", "deliver", 24, sessions::deliver),
+    kind("ask", "ask", 14, sessions::ask),
+    kind("ask_in_place", "ask", 14, sessions::ask),
+    kind("ready", "ready", 6, lights::ready),
+    kind("sheet_write", "write", 15, writings::sheet_write),
     kind("line", "line", 8, lines::line),
     kind("fold@", "fold@", 1, states::fold_absent),
     kind("update@", "update@", 1, states::update_absent),

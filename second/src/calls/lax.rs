@@ -3,7 +3,7 @@
 
 use crate::calls::answer::answer;
 use crate::calls::call::Call;
-use crate::calls::values::MOST_BYTES;
+use crate::calls::values::{parse_number, MOST_BYTES};
 
 fn mended(call: &Call, mend: fn(&[u8]) -> Vec<u8>) -> Option<String> {
     let Call::Line { line } = call else {
@@ -63,6 +63,48 @@ fn sort_slots(field: &[u8]) -> Vec<u8> {
     // One digit comes before two, so that 9 comes before 10.
     slots.sort_by_key(|slot| (slot.iter().position(|byte| *byte == b'='), *slot));
     slots.join(&b',')
+}
+
+/// A session may be written without its counts.
+pub fn counts_missing(call: &Call) -> Option<String> {
+    mended(call, |line| {
+        with_first_argument(line, |session| match session {
+            b"-" => b"0:0".to_vec(),
+            slots => [b"0:0,", slots].concat(),
+        })
+    })
+}
+
+/// A count is cut to a byte.
+pub fn counts_cut(call: &Call) -> Option<String> {
+    mended(call, |line| {
+        with_first_argument(line, |session| {
+            let session = String::from_utf8_lossy(session);
+            let (counts, slots) = match session.find(',') {
+                Some(end) => session.split_at(end),
+                None => (&session[..], ""),
+            };
+            let cut = |count: &str| match parse_number(count) {
+                Some(number) => (number % 256).to_string(),
+                None => count.to_string(),
+            };
+            let counts: Vec<String> = counts.split(':').map(cut).collect();
+            format!("{}{slots}", counts.join(":")).into_bytes()
+        })
+    })
+}
+
+/// The line with something else for its first argument, if it has any.
+fn with_first_argument(line: &[u8], other: fn(&[u8]) -> Vec<u8>) -> Vec<u8> {
+    let fields = line.split(|byte| *byte == b'\t');
+    let fields: Vec<Vec<u8>> = fields
+        .enumerate()
+        .map(|(place, field)| match place {
+            1 => other(field),
+            _ => field.to_vec(),
+        })
+        .collect();
+    fields.join(&b'\t')
 }
 
 /// What does not fit is dropped.

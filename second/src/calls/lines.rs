@@ -10,7 +10,7 @@ use crate::session::Slot;
 use std::ops::Range;
 
 /// Lines that are no call, each for a reason of its own.
-pub const NO_CALLS: [&[u8]; 55] = [
+pub const NO_CALLS: [&[u8]; 97] = [
     b"",
     b"\t",
     b"?",
@@ -57,27 +57,75 @@ pub const NO_CALLS: [&[u8]; 55] = [
     b"pad_write\t-\t@64",
     b"pad_write\t-\t@0",
     b"ask\t\t5",
+    b"ask\t-\t5",
     b"ask\t--\t5",
     b"ask\t,\t5",
-    b"ask\t-\t05",
-    b"ask\t-\t+5",
-    b"ask\t-\t@5",
-    b"ask\t-\t18446744073709551616",
-    b"sheet_write\t-",
-    b"sheet_write\t-\t@64",
-    b"sheet_write\t-\t@0",
+    b"ask\t0:0\t05",
+    b"ask\t0:0\t+5",
+    b"ask\t0:0\t@5",
+    b"ask\t0:0\t18446744073709551616",
+    b"sheet_write\t0:0",
+    b"sheet_write\t0:0\t@64",
+    b"sheet_write\t0:0\t@0",
+    b"ready",
+    b"Ready\t0:0",
+    b"ready\t",
+    b"ready\t-",
+    b"ready\t0",
+    b"ready\t:",
+    b"ready\t0:",
+    b"ready\t:0",
+    b"ready\t-:0",
+    b"ready\t0:-",
+    b"ready\t0::0",
+    b"ready\t0:0:0",
+    b"ready\t0,0",
+    b"ready\t0=0",
+    b"ready\t00:0",
+    b"ready\t0:00",
+    b"ready\t01:1",
+    b"ready\t1:01",
+    b"ready\t+1:1",
+    b"ready\t1:+1",
+    b"ready\t-1:1",
+    b"ready\t1: 1",
+    b"ready\t 1:1",
+    b"ready\t1:1 ",
+    b"ready\t256:0",
+    b"ready\t0:256",
+    b"ready\t257:257",
+    b"ready\t4294967296:0",
+    b"ready\t18446744073709551616:0",
+    b"ready\t0:18446744073709551616",
+    b"ready\t0x1:1",
+    b"ready\ta:a",
+    b"ready\t0:0,",
+    b"ready\t,0:0",
+    b"ready\t0:0,-",
+    b"ready\t-,0:0",
+    b"ready\t0:0,0:0",
+    b"ready\t0:0,5",
+    b"ready\t0:0\t5",
+    b"ready\t@0",
+    b"ready\t0:0\r",
 ];
 
 /// Lines that are a call though they look strange, and what they are answered.
-pub const CALLS: [(&[u8], &str); 8] = [
-    (b"ask\t-\t0", "5\t0\t0"),
-    (b"ask_in_place\t-\t18446744073709551615", "5\t0\t0"),
+pub const CALLS: [(&[u8], &str); 14] = [
+    (b"ask\t0:0\t0", "5\t0\t0"),
+    (b"ask_in_place\t255:0\t18446744073709551615", "5\t0\t0"),
     (b"remove_number\t-", "14"),
     (b"remove_part\t@18446744073709551615", "0\t0\t-"),
-    (b"sheet_read\t@0", "1\t1\t-"),
+    (b"sheet_read\t@0", "1\t1\t0:0"),
+    (b"sheet_read_in_place\t200:200\t-", "1\t1\t0:0"),
+    (b"deliver\t200:255\t5\t-", "5\t0\t0\t200:255"),
+    (b"ready\t0:0", "0"),
+    (b"ready\t1:1", "1"),
+    (b"ready\t200:200", "1"),
+    (b"ready\t0:255", "0"),
     (b"pad_write\t@18446744073709551615\t-", "10\t0\t-"),
     (b"block_part\t-\t@63\t0", "0\t0\t0\t-"),
-    (b"sheet_write\t-\t-", "15\t0\t-"),
+    (b"sheet_write\t1:1\t-", "15\t0\t-"),
 ];
 
 /// By turns one of the lines above, a long one, or one that is made out of a
@@ -133,7 +181,7 @@ fn long(turn: usize) -> Vec<u8> {
 type Spoil = fn(&mut Random, &mut Vec<u8>);
 
 /// Every way to spoil the line of any call.
-const SPOILS: [Spoil; 27] = [
+const SPOILS: [Spoil; 28] = [
     |_, line| line.insert(0, b'\t'),
     |_, line| line.push(b'\t'),
     |_, line| line.push(b'\r'),
@@ -159,6 +207,7 @@ const SPOILS: [Spoil; 27] = [
     slots,
     slots,
     slots,
+    counts,
     |random, line| capital(random, line),
     any_byte,
 ];
@@ -215,25 +264,36 @@ fn argument(random: &mut Random, line: &mut Vec<u8>, other: fn(&[u8]) -> Vec<u8>
     }
 }
 
-/// A session's slots in another order, twice, or with one that is empty. What
-/// is no session is treated as one.
+/// A session's parts in another order, twice, with a slot that is empty, or
+/// without the counts. What is no session is treated as one.
 fn slots(random: &mut Random, line: &mut Vec<u8>) {
     let place = pieces(line, b"\t").get(1).cloned().unwrap_or_default();
     let field = line[place.clone()].to_vec();
     let mut slots: Vec<&[u8]> = field.split(|byte| *byte == b',').collect();
     let empty = format!("32={}", slot_text(&Slot::UNLISTED)).into_bytes();
     let twice = slots[random.index(slots.len())];
-    match random.below(7) {
+    match random.below(8) {
         0 => slots.reverse(),
         1 => slots.push(twice),
-        2 if field == b"-" => slots = vec![&empty],
         2 => slots.push(&empty),
         3 => slots.push(b"-"),
         4 => slots.insert(0, b""),
         5 => slots.push(b""),
+        6 => drop(slots.remove(0)),
         _ => slots.rotate_left(1),
     }
     put(line, place, &slots.join(&b','));
+}
+
+/// Something else for a session's counts. What is no session is treated as one.
+fn counts(random: &mut Random, line: &mut Vec<u8>) {
+    let from = pieces(line, b"\t").get(1).map_or(0, |field| field.start);
+    let end = pieces(&line[from..], b"\t,")[0].end;
+    let others: [&[u8]; 16] = [
+        b"", b"-", b":", b"0", b"0:", b":0", b"0:0:0", b"00:0", b"0:00", b"256:0", b"0:256",
+        b"257:1", b"1:-1", b"+1:1", b"1:1:", b"1.0",
+    ];
+    put(line, from..from + end, random.pick(&others));
 }
 
 /// Every small letter from one place on is made a capital.

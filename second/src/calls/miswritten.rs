@@ -6,6 +6,7 @@ use crate::folders::loop_rules::{self, Rule};
 use crate::hash::State;
 use crate::refusal::{ACCEPTED, NONE_LISTED, SHORT_BUFFER, SLOT_NOT_IN_ORDER};
 use crate::session::{Record, Session, Slot, NONE, NOTES, OPEN, WAITING};
+use crate::walk;
 use crate::writing::{self, Written};
 
 /// A copy of the writer: the places where the mistaken ones go wrong.
@@ -17,6 +18,10 @@ struct Writer<'a> {
     /// Whether a slot has its line.
     listed: fn(&Slot) -> bool,
     line: fn(u64, &Slot) -> String,
+    /// The number of notes by which 15 is judged, of a session with so many
+    /// lines, and the one that the first line gives.
+    judged_count: fn(&Session, usize) -> usize,
+    written_count: fn(&Session, usize) -> usize,
     /// Whether a sheet of this length fits a buffer of that.
     fits: fn(usize, usize) -> bool,
 }
@@ -26,6 +31,8 @@ const HONEST: Writer<'static> = Writer {
     in_order: &|_, slot| slot.status == NONE || slot.in_order(),
     listed: |slot| slot.status != NONE,
     line: |note, slot| writing::line(note, &slot.record),
+    judged_count: |_, lines| lines,
+    written_count: |_, lines| lines,
     fits: |sheet, buffer| sheet <= buffer,
 };
 
@@ -37,10 +44,11 @@ impl Writer<'_> {
             .filter(|(_, slot)| (self.listed)(slot))
             .map(|(note, slot)| (self.line)(note, slot))
             .collect();
-        let sheet = format!("RANK\t1\t{}\n{}", lines.len(), lines.concat());
+        let count = (self.written_count)(session, lines.len());
+        let sheet = format!("RANK\t1\t{count}\n{}", lines.concat());
         let refused = |number: &u8| match *number {
             SLOT_NOT_IN_ORDER => slots().any(|(note, slot)| !(self.in_order)(note, slot)),
-            NONE_LISTED => lines.is_empty(),
+            NONE_LISTED => (self.judged_count)(session, lines.len()) == 0,
             _ => !(self.fits)(sheet.len(), buffer.len()),
         };
         let number = self.order.into_iter().find(refused).unwrap_or(ACCEPTED);
@@ -148,6 +156,31 @@ pub fn in_writing(call: &Call, rule: Rule) -> Option<String> {
         ..HONEST
     }
     .answer(call)
+}
+
+/// Whether any note is listed is judged by the listed count.
+pub fn none_by_count(call: &Call) -> Option<String> {
+    Writer {
+        judged_count: |session, _| session.listed.into(),
+        ..HONEST
+    }
+    .answer(call)
+}
+
+/// The first line gives the listed count.
+pub fn count_for_lines(call: &Call) -> Option<String> {
+    Writer {
+        written_count: |session, _| session.listed.into(),
+        ..HONEST
+    }
+    .answer(call)
+}
+
+/// A session whose counts are not those of its slots is not in order.
+pub fn counts_judged(call: &Call) -> Option<String> {
+    let (session, buffer) = asked(call)?;
+    let unfit = walk::counts(session) != (session.listed, session.open);
+    unfit.then(|| written_text(SLOT_NOT_IN_ORDER, 0, buffer))
 }
 
 /// A status that is none of the four counts as no note.

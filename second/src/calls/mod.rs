@@ -3,9 +3,12 @@
 
 pub mod answer;
 pub mod call;
+pub mod deciding;
 pub mod kinds;
 pub mod lax;
+pub mod lights;
 pub mod lines;
+pub mod miscounted;
 pub mod misjudged;
 pub mod miswritten;
 pub mod paddings;
@@ -202,6 +205,7 @@ pub fn answer_kind(call: &Call, ours: &str) -> String {
             format!("compared-{same}")
         }
         (Call::Deliver { .. }, ["0", status, ..]) => format!("delivered-{status}"),
+        (Call::Ready { .. }, [ready, ..]) => format!("ready-{ready}"),
         (Call::SheetWrite { .. }, [number, ..]) => format!("sheet-write-{number}"),
         (_, [number, ..]) => format!("number-{number}"),
         (_, []) => unreachable!("a split gives one field at least"),

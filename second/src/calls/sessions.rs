@@ -1,18 +1,19 @@
 //! Slots and sessions of every kind, and the calls over them.
 
 use crate::calls::call::Call;
+use crate::calls::deciding;
 use crate::calls::kinds::Wish;
 use crate::calls::states::{self, LONGEST_SLICE};
 use crate::calls::values::Lent;
 use crate::hash::State;
 use crate::making::random::Random;
-use crate::making::{faults, loops, notes, sheets};
+use crate::making::{counts, faults, loops, notes, sheets};
 use crate::padding::LONGEST;
 use crate::refusal::ACCEPTED;
 use crate::session::{Record, Session, Slot, NONE, NOTES, OPEN, SHUT, WAITING};
 
 pub fn sheet_read(wish: &mut Wish) -> Call {
-    let before = wish.in_place().then(|| Box::new(scene(wish).session));
+    let before = before(wish);
     let (_, text) = sheets::at(wish.seed, wish.ordinal);
     let text = Lent::Bytes(text);
     Call::SheetRead { before, text }
@@ -20,27 +21,48 @@ pub fn sheet_read(wish: &mut Wish) -> Call {
 
 /// An empty text: any other is read.
 pub fn sheet_read_absent(wish: &mut Wish) -> Call {
-    let before = wish.in_place().then(|| Box::new(scene(wish).session));
+    let before = before(wish);
     let text = Lent::Absent(0);
     Call::SheetRead { before, text }
 }
 
+/// What a sheet is read over, where it is read in place.
+fn before(wish: &mut Wish) -> Option<Box<Session>> {
+    let wanted = wish.in_place();
+    wanted.then(|| Box::new(any(&mut wish.random, wish.ordinal)))
+}
+
+/// Behind the turns that every kind of slot has come those of notes that are
+/// decided.
 pub fn deliver(wish: &mut Wish) -> Call {
-    let scene = scene(wish);
-    let note = note(wish, scene.note);
+    let turns = SLOT_TURNS + deciding::TURNS;
+    let (round, place) = (wish.ordinal / turns, wish.ordinal % turns);
+    let random = &mut wish.random;
+    let scene = match place.checked_sub(SLOT_TURNS) {
+        Some(turn) => deciding::scene(random, round, turn),
+        None => varied(random, round * SLOT_TURNS + place),
+    };
     Call::Deliver {
         in_place: wish.in_place(),
         session: Box::new(scene.session),
-        note,
-        piece: Lent::Bytes(piece(&mut wish.random, scene.rest)),
+        note: scene.note,
+        piece: Lent::Bytes(scene.rest),
     }
+}
+
+/// A scene with any slot, now and then about another note, and with any piece.
+fn varied(random: &mut Random, turn: u64) -> Scene {
+    let mut scene = scene(random, turn);
+    scene.note = note(random, turn, scene.note);
+    scene.rest = piece(random, scene.rest);
+    scene
 }
 
 /// A piece that no slot can take: it is longer than what the slot still lacks,
 /// also where a cut to 32 bits would make it fit. Now and then an empty one.
 pub fn deliver_absent(wish: &mut Wish) -> Call {
-    let scene = scene(wish);
-    let note = note(wish, scene.note);
+    let scene = scene(&mut wish.random, wish.ordinal);
+    let note = note(&mut wish.random, wish.ordinal, scene.note);
     let lacking = match scene.session.slots[scene.note as usize - 1] {
         slot if slot.state.total < slot.record.length => slot.record.length - slot.state.total,
         _ => 0,
@@ -64,23 +86,27 @@ pub fn deliver_absent(wish: &mut Wish) -> Call {
 }
 
 pub fn ask(wish: &mut Wish) -> Call {
-    let scene = scene(wish);
+    let scene = scene(&mut wish.random, wish.ordinal);
     Call::Ask {
         in_place: wish.in_place(),
-        note: note(wish, scene.note),
+        note: note(&mut wish.random, wish.ordinal, scene.note),
         session: Box::new(scene.session),
     }
 }
 
 /// A session, the note that it is about, and bytes that would end its sample.
-struct Scene {
-    session: Session,
-    note: u64,
-    rest: Vec<u8>,
+pub struct Scene {
+    pub session: Session,
+    pub note: u64,
+    pub rest: Vec<u8>,
 }
 
-fn scene(wish: &mut Wish) -> Scene {
-    let random = &mut wish.random;
+/// A session of any slots and counts.
+pub fn any(random: &mut Random, turn: u64) -> Session {
+    scene(random, turn).session
+}
+
+fn scene(random: &mut Random, turn: u64) -> Scene {
     let note = random.within(1, NOTES);
     let mut session = Session::unlisted();
     let crowd = if random.one_in(4) { NOTES } else { 5 };
@@ -90,8 +116,10 @@ fn scene(wish: &mut Wish) -> Scene {
         let turn = random.word();
         session.slots[place] = slot(random, turn).0;
     }
-    let (slot, rest) = slot(random, wish.ordinal);
+    let (slot, rest) = slot(random, turn);
     session.slots[note as usize - 1] = slot;
+    let counts = counts::some(random, &session);
+    counts::put(&mut session, counts);
     Scene {
         session,
         note,
@@ -102,11 +130,10 @@ fn scene(wish: &mut Wish) -> Scene {
 /// Mostly the note itself; else one that is out of bounds or not listed, or
 /// whose low bits are the note's. Where each status, or each loop at a limit,
 /// has its only turn, it is the note itself.
-fn note(wish: &mut Wish, note: u64) -> u64 {
-    if matches!(wish.ordinal % SLOT_TURNS, LOOP_TURN | STATUS_TURN) {
+fn note(random: &mut Random, turn: u64, note: u64) -> u64 {
+    if matches!(turn % SLOT_TURNS, LOOP_TURN | STATUS_TURN) {
         return note;
     }
-    let random = &mut wish.random;
     let outside = [0, 33, 34, 255, 256, 257, 261, 4294967301, u64::MAX];
     let wrapped = [
         1 << 8,
@@ -215,6 +242,23 @@ pub fn in_order(random: &mut Random) -> Slot {
     }
 }
 
+/// So many notes, each in order, at any place of its loading; no counts yet.
+pub fn loaded(random: &mut Random, count: u64) -> Session {
+    let mut session = Session::unlisted();
+    for note in notes::rising(random, count) {
+        session.slots[note as usize - 1] = in_order(random);
+    }
+    session
+}
+
+/// So many notes, each open; no counts yet.
+pub fn all_open(random: &mut Random, count: u64) -> Session {
+    let mut session = loaded(random, count);
+    let listed = session.slots.iter_mut().filter(|slot| slot.status != NONE);
+    listed.for_each(|slot| *slot = decided_slot(slot.record, OPEN));
+    session
+}
+
 /// A listed slot that is not in order.
 pub fn spoilt(random: &mut Random) -> Slot {
     loop {
@@ -261,23 +305,29 @@ fn waiting_for(random: &mut Random, length: u64) -> (Slot, Vec<u8>) {
     } else {
         lacking as usize
     });
-    let mut ended = state;
-    assert_eq!(ended.update(&rest), ACCEPTED);
-    let mut digest = ended.finish().digest;
+    let mut digest = digest_after(state, &rest);
     if random.one_in(3) {
         digest[random.index(32)] ^= random.bit();
     }
-    let slot = Slot {
+    (waiting_slot(random, length, digest, state), rest)
+}
+
+pub fn digest_after(mut state: State, rest: &[u8]) -> [u8; 32] {
+    assert_eq!(state.update(rest), ACCEPTED);
+    state.finish().digest
+}
+
+pub fn waiting_slot(random: &mut Random, length: u64, digest: [u8; 32], state: State) -> Slot {
+    Slot {
         record: notes::record(random, length, digest),
         state,
         status: WAITING,
-    };
-    (slot, rest)
+    }
 }
 
 /// A state that took so many bytes: one that a message leads to if there are
 /// few, else any in order.
-fn begun(random: &mut Random, total: u64) -> State {
+pub fn begun(random: &mut Random, total: u64) -> State {
     if total > 300 || random.one_in(3) {
         return states::in_order(random, total);
     }

@@ -7,6 +7,7 @@ use crate::calls::answer::{
 };
 use crate::calls::call::Call;
 use crate::calls::lax;
+use crate::calls::miscounted;
 use crate::calls::misjudged::{in_sheet, in_slot};
 use crate::calls::miswritten::{self, in_writing};
 use crate::calls::values::Lent;
@@ -26,9 +27,9 @@ pub struct Slip {
     pub answer: fn(&Call) -> Option<String>,
 }
 
-/// Every slip: of padding, of hash, of session, of reading a sheet, of writing
-/// one, of reading a line.
-pub const SLIPS: [Slip; 62] = [
+/// Every slip: of padding, of hash, of session, of its counts, of reading a
+/// sheet, of writing one, of reading a line.
+pub const SLIPS: [Slip; 89] = [
     slip("padding-one-block", one_block),
     slip("padding-rest-cleared", rest_cleared),
     slip("padding-inside-unjudged", inside_unjudged),
@@ -57,6 +58,23 @@ pub const SLIPS: [Slip; 62] = [
         in_slot(call, rule::unhalved)
     }),
     slip("session-loop-wrapped", |call| in_slot(call, rule::wrapped)),
+    slip("session-counts-judged", miscounted::counts_judged),
+    slip("count-shut-counted", miscounted::shut_counted),
+    slip("count-waiting-counted", miscounted::waiting_counted),
+    slip("count-counted-again", miscounted::counted_again),
+    slip("count-past-32", miscounted::past_most),
+    slip("count-wraps", miscounted::wraps),
+    slip("count-32-added-to", miscounted::most_added_to),
+    slip("count-31-stays", miscounted::below_most_stays),
+    slip("count-cut-to-32", miscounted::cut_to_most),
+    slip("count-stays-at-listed", miscounted::stays_at_listed),
+    slip("count-listed-for-open", miscounted::listed_for_open),
+    slip("count-open-walked", miscounted::open_walked),
+    slip("count-listed-walked", miscounted::listed_walked),
+    slip("ready-walked", miscounted::ready_walked),
+    slip("ready-at-zero", miscounted::ready_at_zero),
+    slip("ready-at-more", miscounted::ready_at_more),
+    slip("ready-within-32", miscounted::ready_within_most),
     slip("sheet-loop-below", |call| in_sheet(call, rule::below)),
     slip("sheet-loop-old", |call| in_sheet(call, rule::old)),
     slip("sheet-loop-one-frame-refused", |call| {
@@ -68,6 +86,11 @@ pub const SLIPS: [Slip; 62] = [
     slip("sheet-loop-unhalved", |call| in_sheet(call, rule::unhalved)),
     slip("sheet-loop-wrapped", |call| in_sheet(call, rule::wrapped)),
     slip("sheet-refused-lists", refused_lists),
+    slip("sheet-refused-keeps-counts", miscounted::refused_keeps),
+    slip("sheet-refused-counted", miscounted::refused_counted),
+    slip("sheet-open-kept", miscounted::accepted_keeps_open),
+    slip("sheet-listed-kept", miscounted::accepted_keeps_listed),
+    slip("sheet-uncounted", miscounted::accepted_uncounted),
     slip("writing-short-before-slots", miswritten::short_before_slots),
     slip("writing-short-before-none", miswritten::short_before_none),
     slip("writing-none-before-slots", miswritten::none_before_slots),
@@ -94,6 +117,9 @@ pub const SLIPS: [Slip; 62] = [
     slip("writing-loop-wrapped", |call| {
         in_writing(call, rule::wrapped)
     }),
+    slip("writing-none-by-count", miswritten::none_by_count),
+    slip("writing-count-for-lines", miswritten::count_for_lines),
+    slip("writing-counts-judged", miswritten::counts_judged),
     slip("writing-states-unjudged", miswritten::states_unjudged),
     slip("writing-status-unlisted", miswritten::status_unlisted),
     slip("writing-open-left-out", miswritten::open_left_out),
@@ -108,6 +134,8 @@ pub const SLIPS: [Slip; 62] = [
     slip("line-capitals-taken", lax::capitals_taken),
     slip("line-zeros-taken", lax::zeros_taken),
     slip("line-slots-sorted", lax::slots_sorted),
+    slip("line-counts-missing", lax::counts_missing),
+    slip("line-counts-cut", lax::counts_cut),
     slip("line-cut-short", lax::cut_short),
 ];
 

@@ -98,6 +98,11 @@ pub fn parse_number(text: &str) -> Option<u64> {
     (digits && !needless).then(|| text.parse().ok()).flatten()
 }
 
+/// A status or a count: the library stores either in a byte.
+fn parse_byte(text: &str) -> Option<u8> {
+    u8::try_from(parse_number(text)?).ok()
+}
+
 /// The library stores the numbers of a record in 32 bits.
 fn parse_record_number(text: &str) -> Option<u64> {
     parse_number(text).filter(|number| *number <= u64::from(u32::MAX))
@@ -152,30 +157,33 @@ fn parse_slot(text: &str) -> Option<Slot> {
             digest: parse_array(digest)?,
         },
         state: parse_state(state)?,
-        status: u8::try_from(parse_number(status)?).ok()?,
+        status: parse_byte(status)?,
     })
 }
 
+/// The two counts, and then each slot that is not the empty one.
 pub fn session_text(session: &Session) -> String {
-    let listed: Vec<String> = (1..=NOTES)
+    let counts = format!("{}:{}", session.listed, session.open);
+    let slots = (1..=NOTES)
         .zip(&session.slots)
         .filter(|(_, slot)| **slot != Slot::UNLISTED)
-        .map(|(note, slot)| format!("{note}={}", slot_text(slot)))
-        .collect();
-    if listed.is_empty() {
-        return "-".to_string();
-    }
-    listed.join(",")
+        .map(|(note, slot)| format!("{note}={}", slot_text(slot)));
+    [counts]
+        .into_iter()
+        .chain(slots)
+        .collect::<Vec<_>>()
+        .join(",")
 }
 
-/// The slots rise, and none of them is the empty one.
+/// The counts are always there. The slots rise, and none of them is the empty
+/// one.
 pub fn parse_session(text: &str) -> Option<Session> {
     let mut session = Session::unlisted();
-    if text == "-" {
-        return Some(session);
-    }
+    let mut entries = text.split(',');
+    let (listed, open) = entries.next()?.split_once(':')?;
+    (session.listed, session.open) = (parse_byte(listed)?, parse_byte(open)?);
     let mut last = 0;
-    for entry in text.split(',') {
+    for entry in entries {
         let (note, slot) = entry.split_once('=')?;
         let note = parse_number(note)?;
         if note <= last || note > NOTES {

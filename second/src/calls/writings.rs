@@ -2,15 +2,18 @@
 
 use crate::calls::call::Call;
 use crate::calls::kinds::Wish;
-use crate::calls::sessions;
+use crate::calls::sessions::{self, loaded};
 use crate::making::random::Random;
-use crate::making::{notes, sheets};
+use crate::making::{counts, notes, sheets};
 use crate::session::{Record, Session, NONE, NOTES, OPEN, SHUT, WAITING};
 use crate::sheet;
 use crate::writing::{self, LONGEST_SHEET};
 
 pub fn sheet_write(wish: &mut Wish) -> Call {
-    let session = session(wish);
+    let mut session = session(wish);
+    // What is written goes by the slots, whatever the counts are.
+    let counts = counts::some(&mut wish.random, &session);
+    counts::put(&mut session, counts);
     let sheet = writing::text(&session).len();
     let mut size = buffer_size(&mut wish.random, sheet);
     // Every loop that is allowed is to be written.
@@ -73,15 +76,6 @@ fn session(wish: &mut Wish) -> Session {
 fn of_sheet(random: &mut Random, count: u64) -> Session {
     let lines = notes::lines(&notes::some(random, count));
     sheet::read(&notes::text(&lines)).session
-}
-
-/// So many notes, each in order, at any place of its loading.
-fn loaded(random: &mut Random, count: u64) -> Session {
-    let mut session = Session::unlisted();
-    for note in notes::rising(random, count) {
-        session.slots[note as usize - 1] = sessions::in_order(random);
-    }
-    session
 }
 
 /// So many notes in order, and one slot where nothing but a loop at a limit may

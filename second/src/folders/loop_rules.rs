@@ -62,6 +62,7 @@ pub fn judged_slot(slot: &Slot, rule: Rule) -> Slot {
 fn judged_session(session: &Session, rule: Rule) -> Session {
     Session {
         slots: session.slots.map(|slot| judged_slot(&slot, rule)),
+        ..*session
     }
 }
 
@@ -81,6 +82,7 @@ pub fn deliver(session: &mut Session, note: u64, piece: &[u8], rule: Rule) -> An
             ..left
         };
     }
+    (session.listed, session.open) = (after.listed, after.open);
     answer
 }
 

@@ -1,7 +1,10 @@
 //! The driver over orders: deliveries to several notes are made in one order
 //! and in another that keeps each note's own. Each must have the same answer in
-//! both, and the session at the end must be the same. Then that session's sheet
-//! is written, and what was written is read again.
+//! both, and the session at the end must be the same, counts and all. Then that
+//! session's sheet is written, and what was written is read again.
+//!
+//! Before the first delivery and after each the program is asked whether all is
+//! ready. From an accepted sheet on, it must say what a walk over the slots says.
 //!
 //! Every call gets the session that the program answered to the one before, and
 //! this program answers every call too.
@@ -9,7 +12,7 @@
 pub mod sequences;
 pub mod slips;
 
-use crate::calls::answer::{answer, answer_text};
+use crate::calls::answer::{answer, answer_text, ready_text};
 use crate::calls::call::Call;
 use crate::calls::values::{parse_bytes, parse_session, session_text, Lent};
 use crate::calls::{answer_kind, difference};
@@ -18,6 +21,7 @@ use crate::refusal::ACCEPTED;
 use crate::report::Report;
 use crate::session::{Answer, Session, NONE, NOTES};
 use crate::sheet;
+use crate::walk;
 use sequences::{Sequence, Start};
 use slips::{Slip, SLIPS};
 use std::io::{self, BufRead, BufReader, Read, Write};
@@ -107,6 +111,8 @@ impl Trial<'_, '_> {
                 }
             }
         };
+        let from_sheet = matches!(sequence.start, Start::Sheet(_));
+        let mut ready = self.light(&session, from_sheet, false, what)?;
         let mut answers = vec![String::new(); order.len()];
         for place in order {
             let call = sequence.call(*place, &session);
@@ -114,8 +120,32 @@ impl Trial<'_, '_> {
                 Some(said) => (answers[*place], session) = said,
                 None => return Ok(None),
             }
+            ready = self.light(&session, from_sheet, ready, what)?;
         }
         Ok(Some(Outcome { answers, session }))
+    }
+
+    /// Whether the program says that this session is ready. From stored counts
+    /// it need not be what the slots say, and a yes may become a no.
+    fn light(
+        &mut self,
+        session: &Session,
+        from_sheet: bool,
+        before: bool,
+        what: &str,
+    ) -> io::Result<bool> {
+        let call = Call::Ready {
+            session: Box::new(*session),
+        };
+        let Some(said) = self.said(&call, what)? else {
+            return Ok(before);
+        };
+        let ready = said == ready_text(true);
+        let fault = walk::fault(session, ready, before).filter(|_| from_sheet);
+        if let Some(fault) = fault.filter(|_| !self.report.done()) {
+            self.report.differs(&format!("{what}: {fault}"));
+        }
+        Ok(ready)
     }
 
     /// The program reads the sheet that it writes itself: it must give the same

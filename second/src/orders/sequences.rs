@@ -5,7 +5,7 @@ use crate::calls::sessions;
 use crate::calls::values::Lent;
 use crate::hash;
 use crate::making::random::Random;
-use crate::making::{loops, notes};
+use crate::making::{counts, loops, notes};
 use crate::session::{Record, Session, NOTES};
 use crate::writing::LONGEST_SHEET;
 
@@ -96,49 +96,63 @@ pub fn at(seed: u64, index: u64) -> Sequence {
 /// A note, and the pieces that it is to get.
 type Part = (u64, Vec<Vec<u8>>);
 
-/// Two to five notes of a sheet, the first with a loop at a limit.
+/// Of the turns of sheets one in so many lists all 32 notes.
+const FULL_EVERY: u64 = 25;
+const FULL_AT: u64 = 6;
+
+/// Two to five notes of a sheet, or all, the first with a loop at a limit. Every
+/// third time all of them are to open, so that a session is ready at the end.
 fn from_sheet(random: &mut Random, turn: u64) -> (Start, Vec<Part>) {
-    let count = random.within(2, 5);
+    let opens = turn.is_multiple_of(3);
+    let count = match turn % FULL_EVERY {
+        FULL_AT => NOTES,
+        _ => random.within(2, 5),
+    };
     let mut listed: Vec<(u64, Record)> = Vec::new();
     let mut parts = Vec::new();
     for note in notes::rising(random, count) {
         let (record, sample) = if listed.is_empty() {
-            with_limit_loop(random, turn)
+            with_limit_loop(random, turn, opens)
         } else {
-            with_any_loop(random)
+            with_any_loop(random, opens)
         };
         listed.push((note, record));
-        parts.push((note, pieces(random, &sample)));
+        let pieces = match opens {
+            true => all_pieces(random, &sample),
+            false => pieces(random, &sample),
+        };
+        parts.push((note, pieces));
     }
     let text = notes::text(&notes::lines(&listed));
     (Start::Sheet(text), parts)
 }
 
-fn with_any_loop(random: &mut Random) -> (Record, Vec<u8>) {
+fn with_any_loop(random: &mut Random, opens: bool) -> (Record, Vec<u8>) {
     let most = random.pick(&[40, 40, 150, 2500]);
     let sample_length = 2 * random.within(1, most);
-    let (sample, digest) = sample(random, sample_length);
+    let (sample, digest) = sample(random, sample_length, opens);
     (notes::record(random, sample_length, digest), sample)
 }
 
 /// Allowed loops by turns. Of a long sample only the first bytes come.
-fn with_limit_loop(random: &mut Random, turn: u64) -> (Record, Vec<u8>) {
+fn with_limit_loop(random: &mut Random, turn: u64, opens: bool) -> (Record, Vec<u8>) {
     let limit = loops::allowed_in_turn(turn);
-    let (sample, digest) = sample(random, limit.length.min(100));
+    let (sample, digest) = sample(random, limit.length.min(100), opens);
     (Record { digest, ..limit }, sample)
 }
 
-/// Bytes, and their digest or a wrong one.
-fn sample(random: &mut Random, length: u64) -> (Vec<u8>, [u8; 32]) {
+/// Bytes, and their digest or, where they need not open a note, a wrong one.
+fn sample(random: &mut Random, length: u64, opens: bool) -> (Vec<u8>, [u8; 32]) {
     let sample = random.bytes(length as usize);
     let mut digest = hash::digest(&sample).digest;
-    if random.one_in(3) {
+    if !opens && random.one_in(3) {
         digest[random.index(32)] ^= random.bit();
     }
     (sample, digest)
 }
 
-/// Slots of every kind, in order or not, and two to five notes among them.
+/// Slots of every kind, in order or not, two to five notes among them, and
+/// counts that fit or not.
 fn from_stored(random: &mut Random, turn: u64) -> (Start, Vec<Part>) {
     let mut session = Session::unlisted();
     for _ in 0..random.below(5) {
@@ -153,6 +167,8 @@ fn from_stored(random: &mut Random, turn: u64) -> (Start, Vec<Part>) {
         session.slots[note as usize - 1] = slot;
         parts.push((note, pieces(random, &rest)));
     }
+    let counts = counts::some(random, &session);
+    counts::put(&mut session, counts);
     (Start::Stored(Box::new(session)), parts)
 }
 
@@ -161,16 +177,29 @@ fn from_stored(random: &mut Random, turn: u64) -> (Start, Vec<Part>) {
 fn stranger(random: &mut Random, parts: &[Part]) -> Part {
     let any = random.within(1, NOTES);
     let of_part = |note: &u64| parts.iter().any(|(other, _)| other == note);
-    let free: Vec<u64> = (1..=NOTES).filter(|note| !of_part(note)).collect();
-    let free = random.pick(&free);
+    let mut free: Vec<u64> = (1..=NOTES).filter(|note| !of_part(note)).collect();
     let outside = random.pick(&[0, 33, 256 + any, (1 << 32) + any, u64::MAX]);
+    // A sheet that lists every note leaves none.
+    if free.is_empty() {
+        free.push(outside);
+    }
+    let free = random.pick(&free);
     let note = random.pick(&[free, outside]);
     (note, pieces(random, b"anything"))
 }
 
-/// The bytes in some pieces, with others between and behind them: empty ones,
-/// and ones that are too long. Now and then the last are missing.
+/// The bytes in some pieces, of which now and then the last are missing.
 fn pieces(random: &mut Random, bytes: &[u8]) -> Vec<Vec<u8>> {
+    let mut pieces = all_pieces(random, bytes);
+    if random.one_in(4) {
+        pieces.truncate(random.index(pieces.len() + 1));
+    }
+    pieces
+}
+
+/// The bytes in some pieces, with others between and behind them: empty ones,
+/// and ones that are too long.
+fn all_pieces(random: &mut Random, bytes: &[u8]) -> Vec<Vec<u8>> {
     let mut pieces = Vec::new();
     let mut rest = bytes;
     while !rest.is_empty() {
@@ -183,9 +212,6 @@ fn pieces(random: &mut Random, bytes: &[u8]) -> Vec<Vec<u8>> {
     }
     for _ in 0..random.below(3) {
         pieces.push(noise(random, 0));
-    }
-    if random.one_in(4) {
-        pieces.truncate(random.index(pieces.len() + 1));
     }
     pieces
 }

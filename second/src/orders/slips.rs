@@ -1,5 +1,5 @@
-//! Deliveries that look at, or touch, more than their own slot: wrong in a way
-//! that only another order shows. Nothing else uses them.
+//! Deliveries that look at, or touch, more than their own slot and the open
+//! count: wrong in a way that only another order shows. Nothing else uses them.
 
 use crate::refusal::{ACCEPTED, DECIDED};
 use crate::session::{Answer, Session, NONE, NOTES, OPEN, SHUT, WAITING};
@@ -11,11 +11,12 @@ pub struct Slip {
 }
 
 /// Every slip.
-pub const SLIPS: [Slip; 4] = [
+pub const SLIPS: [Slip; 5] = [
     slip("order-slot-before-peeked", slot_before_peeked),
     slip("order-words-shared", words_shared),
     slip("order-slot-behind-written", slot_behind_written),
     slip("order-all-counted", all_counted),
+    slip("order-open-so-far", open_so_far),
 ];
 
 const fn slip(name: &'static str, deliver: fn(&mut Session, u64, &[u8]) -> Answer) -> Slip {
@@ -79,4 +80,15 @@ fn all_counted(session: &mut Session, note: u64, piece: &[u8]) -> Answer {
         taken: slots.fold(0, |sum, slot| sum.wrapping_add(slot.state.total)),
         ..answer
     }
+}
+
+/// The open notes are counted from the first slot up to the opened one: nothing
+/// but the count at the end tells the orders apart.
+fn open_so_far(session: &mut Session, note: u64, piece: &[u8]) -> Answer {
+    let answer = session.deliver(note, piece);
+    if answer.number == ACCEPTED && answer.status == OPEN {
+        let so_far = session.slots[..note as usize].iter();
+        session.open = so_far.filter(|slot| slot.status == OPEN).count() as u8;
+    }
+    answer
 }

@@ -31,7 +31,7 @@ fn filled(call: &Call, byte: u8) -> Option<Call> {
         } => fill(message, byte) && fill(buffer, byte),
         Call::SheetRead { text, .. } => fill(text, byte),
         Call::Fresh | Call::Finish { .. } | Call::Ask { .. } => false,
-        Call::SheetWrite { .. } | Call::Line { .. } => false,
+        Call::Ready { .. } | Call::SheetWrite { .. } | Call::Line { .. } => false,
     };
     done.then_some(call)
 }

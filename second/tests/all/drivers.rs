@@ -53,7 +53,7 @@ fn every_slip_in_calls_is_found() {
     ];
     let output = drive(&folder, &arguments);
     let all = said(&output);
-    assert_eq!(all.matches(" found by call ").count(), 62, "{all}");
+    assert_eq!(all.matches(" found by call ").count(), 89, "{all}");
     assert!(!all.contains("not found"));
     assert_eq!(output.status.code(), Some(0));
 }
@@ -95,12 +95,12 @@ fn a_call_program_that_is_wrong_or_ends_is_seen() {
 fn the_call_that_ends_the_program_is_found() {
     let folder = help::folder("calls-end");
     let program = format!("sed '/^deliver\t.*@/,$d' | {SECOND} answer-calls");
-    let output = drive(&folder, &["calls", "486", "3", "sh", "-c", &program]);
+    let output = drive(&folder, &["calls", "528", "3", "sh", "-c", &program]);
     let all = said(&output);
     assert!(last_line(&output).ends_with("\tdiffer 2"), "{all}");
     assert_eq!(all.matches("(deliver@)\n").count(), 2, "{all}");
     let without = ["calls", "--without", "deliver@"];
-    let rest = ["486", "3", "sh", "-c", &program];
+    let rest = ["528", "3", "sh", "-c", &program];
     let output = drive(&folder, &[&without[..], &rest[..]].concat());
     assert!(last_line(&output).ends_with("\tdiffer 0"));
 }
@@ -122,7 +122,7 @@ fn every_slip_in_orders_is_found() {
     let rest = ["200", "3", SECOND, "answer-calls"];
     let output = drive(&folder, &[&slips[..], &rest[..]].concat());
     let all = said(&output);
-    assert_eq!(all.matches(" found by sequence ").count(), 4, "{all}");
+    assert_eq!(all.matches(" found by sequence ").count(), 5, "{all}");
     assert_eq!(output.status.code(), Some(0));
 }
 
@@ -131,12 +131,32 @@ fn every_slip_in_orders_is_found() {
 #[test]
 fn a_program_that_peeks_at_other_slots_is_seen() {
     let folder = help::folder("orders-peeking");
-    let peek = "s/^0\\t1\\t[0-9]*\\(\\t.*:2,.*\\)$/0\\t1\\t99\\1/";
+    let open = "[0-9a-f]\\{128\\}:2,";
+    let peek = format!("s/^0\\t1\\t[0-9]*\\(\\t.*{open}.*\\)$/0\\t1\\t99\\1/");
     let program = format!("{SECOND} answer-calls | sed -u '{peek}'");
     let output = drive(&folder, &["orders", "200", "3", "sh", "-c", &program]);
     assert!(said(&output).contains(": the two orders\n"));
     assert!(said(&output).contains("0\t1\t99\t"));
     assert_eq!(output.status.code(), Some(1));
+}
+
+/// The program says no to whether all is ready, or does not count open notes:
+/// both are seen by the walk over the slots too, which needs no second program.
+#[test]
+fn a_program_whose_light_is_not_what_the_slots_say_is_seen() {
+    let folder = help::folder("orders-light");
+    let never = "s/^1$/0/";
+    let uncounted = "s/^\\(0\\t2\\t[0-9]*\\t[0-9]*\\):[0-9]*/\\1:0/";
+    for (wrong, fault) in [
+        (never, ": ready is not what the walk over the slots says\n"),
+        (uncounted, ": the open count is not that of the slots\n"),
+    ] {
+        let program = format!("{SECOND} answer-calls | sed -u '{wrong}'");
+        let output = drive(&folder, &["orders", "200", "3", "sh", "-c", &program]);
+        assert!(said(&output).contains(fault), "{}", said(&output));
+        assert!(last_line(&output).ends_with("\tdiffer 10"));
+        assert_eq!(output.status.code(), Some(1));
+    }
 }
 
 /// The program writes a loop from frame 1 where it should write one from 0, and

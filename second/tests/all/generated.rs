@@ -143,7 +143,7 @@ fn no_call_needs_bytes_that_are_not_there_and_every_number_is_answered() {
         let ours = answer(&call).expect(kind);
         let number = ours.split('\t').next().unwrap().parse::<u8>();
         match call {
-            Call::Fresh | Call::Fold { .. } | Call::Line { .. } => (),
+            Call::Fresh | Call::Fold { .. } | Call::Ready { .. } | Call::Line { .. } => (),
             Call::Block { part: true, .. } | Call::Remove { part: true, .. } => (),
             _ => drop(numbers.insert(number.unwrap())),
         }

@@ -2,6 +2,7 @@
 
 mod absent;
 mod command;
+mod counts;
 mod cuttings;
 mod drivers;
 mod examples;
@@ -12,6 +13,7 @@ mod hostile_states;
 mod loops;
 mod padding;
 mod program;
+mod ready;
 mod refusals;
 mod removing;
 mod session;

@@ -77,8 +77,8 @@ fn states_are_words_total_and_tail() {
 }
 
 #[test]
-fn sessions_are_their_slots_that_are_not_empty() {
-    assert_eq!(values::session_text(&Session::unlisted()), "-");
+fn sessions_are_their_counts_and_their_slots_that_are_not_empty() {
+    assert_eq!(values::session_text(&Session::unlisted()), "0:0");
     let mut session = help::session_for(b"sample");
     session.slots[31] = Slot {
         record: Record::ZERO,
@@ -88,30 +88,42 @@ fn sessions_are_their_slots_that_are_not_empty() {
     let digest = help::hex(&help::digest_of(b"sample"));
     let zeros = help::zeros();
     let end = session.slots[4].record.loop_end;
-    let text = format!("5=6:0:{end}:{digest}:{FRESH}:1,32=0:0:0:{zeros}:{FRESH}:255");
+    let five = format!("5=6:0:{end}:{digest}:{FRESH}:1");
+    let last = format!("32=0:0:0:{zeros}:{FRESH}:255");
+    let text = format!("1:0,{five},{last}");
     assert_eq!(values::session_text(&session), text);
     assert_eq!(values::parse_session(&text), Some(session));
-    assert_eq!(values::parse_session("-"), Some(Session::unlisted()));
+    assert_eq!(values::parse_session("0:0"), Some(Session::unlisted()));
     let empty = format!("6={}", values::slot_text(&Slot::UNLISTED));
-    let (five, last) = text.split_once(',').unwrap();
     for wrong in [
         "",
+        "-",
         "5",
         "5=",
         ",",
         &empty,
+        &five,
         &text[1..],
+        &format!("{five},{last}"),
+        &format!("-,{five}"),
+        &format!("{five},1:0"),
+        &format!("1:0,{empty}"),
         &format!("{text},{text}"),
-        &format!("{five},{five}"),
-        &format!("{last},{five}"),
-        &format!("{five},{empty},{last}"),
-        &format!("{five},,{last}"),
+        &format!("{text},1:0"),
+        &format!("1:0,{text}"),
+        &format!("1:0,{five},{five}"),
+        &format!("1:0,{last},{five}"),
+        &format!("1:0,{five},{empty},{last}"),
+        &format!("1:0,{five},,{last}"),
+        &format!("1:0,,{five}"),
+        &format!("1:0{five}"),
+        &format!("1:0:{five}"),
         &format!("{text},"),
         &format!(",{text}"),
         &format!("{text},-"),
         &text.replace("32=", "33="),
-        &text.replace("5=", "0="),
-        &text.replace("5=", "05="),
+        &text.replace(",5=", ",0="),
+        &text.replace(",5=", ",05="),
         &text.replace("5=6:", "5=4294967296:"),
         &text.replace(":255", ":256"),
         &text.replace(":255", ":0255"),
@@ -120,6 +132,59 @@ fn sessions_are_their_slots_that_are_not_empty() {
     }
     let widest = text.replace("5=6:", "5=4294967295:");
     assert!(values::parse_session(&widest).is_some());
+}
+
+#[test]
+fn the_counts_of_a_session_are_two_numbers_of_a_byte_and_always_there() {
+    for listed in 0..=255 {
+        for open in 0..=255 {
+            let session = Session {
+                listed,
+                open,
+                ..Session::unlisted()
+            };
+            let text = format!("{listed}:{open}");
+            assert_eq!(values::session_text(&session), text);
+            assert_eq!(values::parse_session(&text), Some(session));
+        }
+    }
+    for wrong in [
+        ":",
+        "0",
+        "0:",
+        ":0",
+        "0:0:",
+        ":0:0",
+        "0:0:0",
+        "0,0",
+        "0=0",
+        "-:0",
+        "0:-",
+        "00:0",
+        "0:00",
+        "01:1",
+        "1:01",
+        "256:0",
+        "0:256",
+        "+1:1",
+        "1:+1",
+        "-1:1",
+        "1:-1",
+        " 1:1",
+        "1 :1",
+        "1:1 ",
+        "1.0:1",
+        "0x1:1",
+        "a:a",
+        "0:0,",
+        "0:0,-",
+        "0:0,0:0",
+        "0:0,1",
+        "@0",
+        "18446744073709551616:0",
+    ] {
+        assert_eq!(values::parse_session(wrong), None, "{wrong:?}");
+    }
 }
 
 #[test]

@@ -44,6 +44,7 @@ fn waiting(session: &Session) -> Session {
                 state: State::fresh(),
                 status: 1,
             };
+            waiting.listed += 1;
         }
     }
     waiting
