@@ -2,6 +2,7 @@
  * plain, fold: N blocks folded by the plain C and by the proved library (SIZE is not looked at);
  * update: N pieces of SIZE bytes into a state, by value;
  * deliver, deliver_by_value: N pieces of SIZE bytes to a waiting note, in place and by value;
+ * ready: N times the rank-ready light of 32 notes that are listed and SIZE that are open;
  * sheet_read, sheet_write: N times the longest sheet of SIZE notes, read in place and written.
  * What it prints keeps the work from being dropped. It is eight figures whatever they are, each made in the same number of steps. */
 #include "../host/plain_c.h"
@@ -11,7 +12,7 @@ void plain_fold(uint32_t v[8], const uint8_t *bytes, uint64_t blocks);
 
 static uint8_t bytes[64 * 4096];
 static vs_session session;
-static bool all_accepted = true; /* a call that is refused would count as a quick one */
+static bool all_accepted = true; /* a call that is refused, or a light that answers otherwise, would count as a quick one */
 
 static void fill(void) {
     for (size_t i = 0; i < sizeof bytes; i++)
@@ -47,12 +48,23 @@ static uint32_t deliver(bool in_place, size_t size, size_t n) {
     return slot->state.words.a ^ (uint32_t)slot->state.total;
 }
 
+static uint32_t ready(size_t open, size_t n) {
+    uint32_t yes = 0;
+    session.listed = VS_NOTES;
+    session.open = (uint8_t)open;
+    for (size_t i = 0; i < n; i++)
+        yes += vs_ready(&session);
+    all_accepted = yes == (open == VS_NOTES ? n : 0);
+    return yes;
+}
+
 static uint32_t sheets(bool to_write, size_t notes, size_t n) {
     static uint8_t text[VS_LONGEST_SHEET];
     for (size_t i = 0; i < notes; i++) {
         session.slots[i] = (vs_slot){{4294967294, 2147483646, 2147483646, {0}}, vs_fresh(), VS_WAITING};
         memcpy(session.slots[i].sample.digest, vs_digest_of(bytes, i).bytes, VS_DIGEST);
     }
+    session.listed = (uint8_t)notes;
     vs_written sheet = vs_sheet_write(&session, text, sizeof text);
     all_accepted = sheet.number == VS_ACCEPTED;
     for (size_t i = 0; i < n; i++)
@@ -75,6 +87,8 @@ int main(int argc, char **argv) {
         seen = deliver(true, size, n);
     else if (strcmp(argv[1], "deliver_by_value") == 0)
         seen = deliver(false, size, n);
+    else if (strcmp(argv[1], "ready") == 0)
+        seen = ready(size, n);
     else if (strcmp(argv[1], "sheet_read") == 0)
         seen = sheets(false, size, n);
     else if (strcmp(argv[1], "sheet_write") == 0)

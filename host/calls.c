@@ -58,6 +58,13 @@ static bool take_number_32(const char **text, uint32_t *n) {
     return there;
 }
 
+static bool take_number_8(const char **text, uint8_t *n) {
+    uint64_t wide = 0;
+    bool there = take_number(text, UINT8_MAX, &wide);
+    *n = (uint8_t)wide;
+    return there;
+}
+
 static int nibble(char c) { return c >= '0' && c <= '9' ? c - '0' : c >= 'a' && c <= 'f' ? c - 'a' + 10 : -1; }
 
 /* Two hex digits a byte, as many as there are and at most `most`. */
@@ -89,11 +96,7 @@ static bool take_record(const char **text, vs_record *r) {
 }
 
 static bool take_slot(const char **text, vs_slot *s) {
-    uint64_t status = 0;
-    bool there = take_record(text, &s->sample) && take(text, ':') && take_state(text, &s->state) && take(text, ':') &&
-                 take_number(text, UINT8_MAX, &status);
-    s->status = (uint8_t)status;
-    return there;
+    return take_record(text, &s->sample) && take(text, ':') && take_state(text, &s->state) && take(text, ':') && take_number_8(text, &s->status);
 }
 
 static bool same_state(const vs_hash *a, const vs_hash *b) {
@@ -112,19 +115,18 @@ static void empty_session(vs_session *s) {
         s->slots[i].state = vs_fresh();
 }
 
-/* Slots that are not empty, their notes rising. */
+/* LISTED:OPEN, then after a comma each of the slots that are not empty, their notes rising. The counts are taken as they stand. */
 static bool take_session(const char **text, vs_session *s) {
     uint64_t note, last = 0;
     empty_session(s);
-    if (take(text, '-'))
-        return true;
-    do {
+    if (!(take_number_8(text, &s->listed) && take(text, ':') && take_number_8(text, &s->open)))
+        return false;
+    for (; take(text, ','); last = note) {
         if (!take_number(text, VS_NOTES, &note) || note <= last || !take(text, '='))
             return false;
         if (!take_slot(text, &s->slots[note - 1]) || is_empty(&s->slots[note - 1]))
             return false;
-        last = note;
-    } while (take(text, ','));
+    }
     return true;
 }
 
@@ -174,16 +176,13 @@ static void put_slot(const vs_slot *s) {
 }
 
 static void put_session(const vs_session *s) {
-    bool any = false;
+    printf("%u:%u", s->listed, s->open);
     for (int i = 0; i < VS_NOTES; i++) {
         if (is_empty(&s->slots[i]))
             continue;
-        printf("%s%d=", any ? "," : "", i + 1);
+        printf(",%d=", i + 1);
         put_slot(&s->slots[i]);
-        any = true;
     }
-    if (!any)
-        fputc('-', stdout);
 }
 
 static void put_digest(vs_digest d) {
@@ -282,6 +281,8 @@ static void ask(void) { put_answer(vs_ask(given.session, given.number)); }
 
 static void ask_in_place(void) { put_answer(vs_ask_in_place(&given.session, given.number)); }
 
+static void ready(void) { printf("%u", vs_ready(&given.session)); }
+
 static void sheet_write(void) {
     slice *buffer = &given.slices[0];
     put_written(vs_sheet_write(&given.session, buffer->bytes, buffer->length), buffer);
@@ -312,6 +313,7 @@ static const struct {
     {"deliver_in_place", "snl", deliver_in_place},
     {"ask", "sn", ask},
     {"ask_in_place", "sn", ask_in_place},
+    {"ready", "s", ready},
     {"sheet_write", "sw", sheet_write},
 };
 

@@ -1,4 +1,6 @@
-/* A C host: loads the rank in the folder that it is given (or in the one that it is run in) and prints a line for each of its notes.
+/* A C host: loads the rank in the folder that it is given (or in the one that it is run in) and prints a line for each of its notes, and below it
+ * the rank-ready light as it stands then: `ready yes` once every listed note is open, `ready no` before. Of a refused sheet it prints the refusal
+ * alone: nothing is loaded, and the light stays off.
  * This is what firmware does, with files in place of a card. example [FOLDER [--sheet]]: with --sheet it loads the rank all the same, and
  * prints the sheet that the library writes of the session then: rank.txt again, whatever became of the notes. */
 #include "plain_c.h"
@@ -25,6 +27,14 @@ static void load_note(unsigned note) {
     fclose(f);
 }
 
+static void print_note(unsigned note) {
+    static const char *const words[] = {"none", "waiting", "open", "shut"};
+    vs_answer a = vs_ask_in_place(&session, note);
+    printf("%u\t%s\t%llu\n", note, words[a.status], (unsigned long long)a.taken);
+}
+
+static void print_light(void) { printf("ready\t%s\n", vs_ready(&session) ? "yes" : "no"); }
+
 /* The exit status: where there is no sheet to write, nothing is printed that could be taken for one. */
 static int print_sheet(void) {
     vs_written sheet = vs_sheet_write(&session, piece, VS_LONGEST_SHEET);
@@ -36,7 +46,6 @@ static int print_sheet(void) {
 }
 
 int main(int argc, char **argv) {
-    static const char *const words[] = {"none", "waiting", "open", "shut"};
     bool to_write = argc == 3 && strcmp(argv[2], "--sheet") == 0;
     if (argc > 2 && !to_write) {
         fputs("example [FOLDER [--sheet]]\n", stderr);
@@ -59,9 +68,10 @@ int main(int argc, char **argv) {
         if (vs_ask_in_place(&session, note).number != VS_ACCEPTED)
             continue;
         load_note(note);
-        vs_answer a = vs_ask_in_place(&session, note);
-        if (!to_write)
-            printf("%u\t%s\t%llu\n", note, words[a.status], (unsigned long long)a.taken);
+        if (to_write)
+            continue;
+        print_note(note);
+        print_light();
     }
     return to_write ? print_sheet() : 0;
 }

@@ -35,7 +35,7 @@ static bool take_number(const char **text, uint32_t *number) {
 
 static bool take_colon(const char **text) { return *(*text)++ == ':'; }
 
-/* Lists the note that a word names, with its loop. */
+/* Lists the note that a word names, with its loop, and counts it. */
 static bool list_note(const char *word) {
     const char *text = word;
     uint32_t note, start, end;
@@ -51,6 +51,7 @@ static bool list_note(const char *word) {
     slot->sample.loop_end = end;
     slot->state = vs_fresh();
     slot->status = VS_WAITING;
+    session.listed++; /* at most 32 times, since no note is listed twice; none is open */
     return true;
 }
 

@@ -20,6 +20,7 @@
 #define vs_fold at_vs_fold
 #define vs_fresh at_vs_fresh
 #define vs_pad_write at_vs_pad_write
+#define vs_ready at_vs_ready
 #define vs_remove_number at_vs_remove_number
 #define vs_remove_part at_vs_remove_part
 #define vs_sheet_read at_vs_sheet_read
@@ -68,7 +69,8 @@ __asm__("run:\n   mov %rsp, kept_rsp(%rip)\n   lea stack_low+65536(%rip), %rsp\n
 
 #define EACH(X)                                                                                                                                      \
     X(ask) X(ask_in_place) X(block_number) X(block_part) X(compare_message) X(compare_state) X(deliver) X(deliver_in_place) X(digest_of) X(finish)   \
-    X(fold) X(fresh) X(pad_write) X(remove_number) X(remove_part) X(sheet_read) X(sheet_read_in_place) X(sheet_write) X(update) X(update_in_place)
+    X(fold) X(fresh) X(pad_write) X(ready) X(remove_number) X(remove_part) X(sheet_read) X(sheet_read_in_place) X(sheet_write) X(update)             \
+    X(update_in_place)
 #define DOOR_OF(name) DOOR(vs_##name);
 EACH(DOOR_OF)
 
@@ -107,6 +109,7 @@ static void deliver(void) { vs_delivered d = vs_deliver(session, note, message, 
 static void deliver_in_place(void) { vs_answer a = vs_deliver_in_place(&session, note, message, message_length); number = first(&a); }
 static void ask(void) { vs_answer a = vs_ask(session, note); number = first(&a); }
 static void ask_in_place(void) { vs_answer a = vs_ask_in_place(&session, note); number = first(&a); }
+static void ready(void) { number = !vs_ready(&session); } /* it refuses nothing: a no is counted as one */
 
 static struct {
     const char *name;
@@ -234,16 +237,27 @@ static void on_sheets_to_write(void) {
         measure(fresh);
         slot->state = state;
         slot->status = VS_WAITING;
+        session.listed++;
         on_writing();
     }
     session.slots[VS_NOTES - 1].sample.length = 3;
     on_writing();
 }
 
+/* The light of counts that are equal, that are not, and that no slots have. */
+static void on_counts(void) {
+    static const uint8_t counts[][2] = {{0, 0}, {1, 0}, {0, 1}, {1, 1}, {VS_NOTES, VS_NOTES}, {VS_NOTES, VS_NOTES - 1}, {200, 200}, {UINT8_MAX, 0}};
+    for (size_t i = 0; i < sizeof counts / sizeof *counts; i++) {
+        session.listed = counts[i][0], session.open = counts[i][1];
+        try(ready);
+    }
+}
+
 static void on_sessions(void) {
     for (int kind = 0; kind < 5; kind++) { /* waiting; with some bytes; decided; a state that is not in order; a status that is none */
         size_t length = message_length;
         measure(sheet_read_in_place);
+        session.open = kind == 1 ? VS_NOTES : 0; /* a count that stays, and one that is added to */
         for (note = 1; note <= VS_NOTES; note += VS_NOTES - 1) {
             message_length = kind == 1 ? 127 : kind == 2 ? LENGTH : 0;
             measure(deliver_in_place);
@@ -253,7 +267,7 @@ static void on_sessions(void) {
         message_length = length;
         for (note = 0; note <= VS_NOTES + 1; note += note == 1 ? VS_NOTES - 1 : 1)
             try(deliver), try(deliver_in_place), try(ask), try(ask_in_place);
-        try(sheet_write);
+        try(sheet_write), try(ready);
     }
 }
 
@@ -265,6 +279,7 @@ int main(void) {
     on_sheets();
     on_sheets_to_write();
     on_refusals();
+    on_counts();
     for (size_t i = 0; i < sizeof lengths / sizeof *lengths; i++) {
         message_length = lengths[i];
         on_messages();

@@ -16,16 +16,23 @@
  * - Leaf functions use the red zone, the 128 bytes below the stack pointer: whatever interrupts a call must step over them before it writes to
  *   the same stack. An operating system does so. On bare metal the processor does not, for it pushes its frame right below the stack pointer:
  *   there an interrupt that may come during a call runs on a stack of its own (an IST entry), or is held off for the call.
- * - Memory: a session is 5,120 bytes, a hash state 104. docs/FRAMES.md has the stack that each call takes, the red zone included. On top of its
+ * - Memory: a session is 5,128 bytes, a hash state 104. docs/FRAMES.md has the stack that each call takes, the red zone included. On top of its
  *   totals come what the host's memcpy and memset take, and the return address of the call to them.
  * - Nothing is claimed of how long a call takes, a comparison too: it looks at all 32 bytes whatever it finds, and no more is said.
  *
- * States and sessions are plain values: copy them and store them. Compare them field by field, since the padding between fields is free. A
- * session of all zero bytes lists no note. A stored state is in order when total is at most 2^61 - 1 and the tail bytes behind the first
- * total % 64 are zero; a stored slot is in order when its length is even, 2 to 4294967294, its loop obeys loop_start <= loop_end < length / 2,
- * and its state is in order with total below length (waiting) or the fresh one (open, shut). What is not in order is refused (6, 9), never used.
- * What is in order is believed, an open slot too: what a status says holds of sessions that only these functions wrote. A slot is listed
- * unless its status is VS_NONE, whatever else it holds; a status above VS_SHUT is listed, and not in order.
+ * States and sessions are plain values: copy them and store them. Compare them field by field, since the padding between and behind fields is
+ * free. A session of all zero bytes lists no note, and is not ready. A stored state is in order when total is at most 2^61 - 1 and the tail
+ * bytes behind the first total % 64 are zero; a stored slot is in order when its length is even, 2 to 4294967294, its loop obeys
+ * loop_start <= loop_end < length / 2, and its state is in order with total below length (waiting) or the fresh one (open, shut). What is not in
+ * order is refused (6, 9), never used. What is in order is believed, an open slot too: what a status says holds of sessions that only these
+ * functions wrote. A slot is listed unless its status is VS_NONE, whatever else it holds; a status above VS_SHUT is listed, and not in order.
+ *
+ * A session counts, beside its slots: listed, how many notes are listed, and open, how many of them are open. Reading a sheet sets both,
+ * whatever was there: an accepted one of n notes to n and 0, a refused one to 0 and 0. A delivery that opens a note adds one to open, save that
+ * a stored count of 32 or more stays. Nothing else changes a count, and nothing but the light, vs_ready, goes by one: no slot's order, no answer
+ * of a delivery or of asking, no sheet that is written. So counts that do not fit the slots, stored or filled in, make the light show nonsense, and
+ * nothing more. A session that was stored before there were counts has 5,120 bytes, 8 fewer: it is never lent, for a call would go past its
+ * end. Throw it away, read the sheet, and deliver again.
  *
  * loop_end is the last frame that sounds. Frame f is bytes 2f and 2f + 1 of a sample, and of a note for which a status other than VS_NONE is
  * answered every frame from loop_start to loop_end lies inside the sample: the loop's last byte is 2 * loop_end + 1, below length. By the rule
@@ -33,7 +40,8 @@
  * session that was stored under it.
  *
  * A host that has samples and no sheet fills the slots itself, in a session of zeros: a record (its digest by vs_digest_of, or piece
- * by piece by vs_update_in_place and vs_finish), the state that vs_fresh gives, VS_WAITING.
+ * by piece by vs_update_in_place and vs_finish), the state that vs_fresh gives, VS_WAITING. It fills in the counts too, in listed how many slots
+ * have a status other than VS_NONE, in open how many have VS_OPEN: so VS_WAITING in each makes open 0.
  * vs_ask_in_place then says of each whether it is in order, and vs_sheet_write makes the sheet. A record is believed there too: the sheet has
  * the length and the digest that it holds, whatever bytes were or were not delivered.
  */
@@ -51,7 +59,7 @@ extern "C" {
 /* ---- Refusal numbers -------------------------------------------------------------------------------------------------------------- */
 
 #define VS_ACCEPTED 0
-/* Sheet: form; count or note; length; loop. Left: the line's number, and a session with no note listed. */
+/* Sheet: form; count or note; length; loop. Left: the line's number, and a session with no note listed and both counts 0. */
 #define VS_FORM 1
 #define VS_COUNT_OR_NOTE 2
 #define VS_BAD_LENGTH 3
@@ -147,9 +155,10 @@ typedef struct {
     uint8_t status;
 } vs_slot;
 
-/* 32 slots: slots[0] is note 1's. */
+/* 32 slots: slots[0] is note 1's. Behind them how many notes are listed, and how many of these are open. */
 typedef struct {
     vs_slot slots[VS_NOTES];
+    uint8_t listed, open;
 } vs_session;
 
 typedef struct {
@@ -177,8 +186,10 @@ typedef struct {
 /* The layout that the library was compiled with: a host whose compiler lays these out otherwise does not compile. */
 #ifdef __cplusplus
 #define VS_LAYOUT(fact) static_assert(fact, #fact)
+#define VS_ALIGNMENT(type) alignof(type)
 #else
 #define VS_LAYOUT(fact) _Static_assert(fact, #fact)
+#define VS_ALIGNMENT(type) _Alignof(type)
 #endif
 VS_LAYOUT(sizeof(size_t) == 8);
 VS_LAYOUT(sizeof(vs_words) == 32);
@@ -192,11 +203,14 @@ VS_LAYOUT(sizeof(vs_record) == 44);
 VS_LAYOUT(offsetof(vs_slot, state) == 48);
 VS_LAYOUT(offsetof(vs_slot, status) == 152);
 VS_LAYOUT(sizeof(vs_slot) == 160);
-VS_LAYOUT(sizeof(vs_session) == 5120);
+VS_LAYOUT(offsetof(vs_session, listed) == 5120);
+VS_LAYOUT(offsetof(vs_session, open) == 5121);
+VS_LAYOUT(sizeof(vs_session) == 5128);
+VS_LAYOUT(VS_ALIGNMENT(vs_session) == 8);
 VS_LAYOUT(sizeof(vs_answer) == 16);
-VS_LAYOUT(sizeof(vs_delivered) == 5136);
+VS_LAYOUT(sizeof(vs_delivered) == 5144);
 VS_LAYOUT(sizeof(vs_verdict) == 8);
-VS_LAYOUT(sizeof(vs_sheet) == 5128);
+VS_LAYOUT(sizeof(vs_sheet) == 5136);
 
 /* ---- SM3 -------------------------------------------------------------------------------------------------------------------------- */
 
@@ -238,7 +252,8 @@ size_t vs_remove_part(const uint8_t *bytes, size_t bytes_length);
 
 /* ---- The rank sheet and the loading session ---------------------------------------------------------------------------------------- */
 
-/* The session of a sheet: every listed note waiting. Refusals 1 to 4 with the line; then no note is listed. An accepted sheet's line is 0. */
+/* The session of a sheet: every listed note waiting, counted in listed, and open 0. Refusals 1 to 4 with the line; then no note is listed, and
+ * both counts are 0. An accepted sheet's line is 0. */
 vs_sheet vs_sheet_read(const uint8_t *text, size_t text_length);
 
 /* The same into a lent session, whatever it held: under 1 KB of stack where the call by value takes over 5 KB. */
@@ -251,15 +266,22 @@ vs_verdict vs_sheet_read_in_place(vs_session *session, const uint8_t *text, size
 vs_written vs_sheet_write(const vs_session *session, uint8_t *buffer, size_t buffer_length);
 
 /* A piece of a note's bytes. Refusals 5, 6, 7, 8: the session as it was. A note is open (VS_OPEN) from the moment its last byte is in and
- * the digest fits, shut (VS_SHUT) if it does not fit, and stays so. */
+ * the digest fits, shut (VS_SHUT) if it does not fit, and stays so. The delivery that opens it adds one to the open count, save that a count
+ * of 32 or more stays; no other delivery changes a count. */
 vs_delivered vs_deliver(vs_session session, uint64_t note, const uint8_t *piece, size_t piece_length);
 
-/* The same in place: only the note's own slot is copied, and written back. */
+/* The same in place: of the session only the note's own slot and the open count are copied, and written back. */
 vs_answer vs_deliver_in_place(vs_session *session, uint64_t note, const uint8_t *piece, size_t piece_length);
 
 /* A note's status and the bytes taken. Refusals 5, 6. */
 vs_answer vs_ask(vs_session session, uint64_t note);
 vs_answer vs_ask_in_place(const vs_session *session, uint64_t note);
+
+/* The rank-ready light, answered from the two counts alone: yes exactly when they are equal and not zero. It refuses nothing, and looks at no
+ * slot (stored counts of 200 and 200 are a yes). It takes a few instructions, so a panel may ask as often as it likes, only not during a call that
+ * writes the session. From an accepted sheet on, whatever is delivered, a yes says exactly that every listed note is open, and that at least one
+ * is listed: what a walk over the slots would find. It stays until a sheet is read again. After a refused sheet the answer is no. */
+bool vs_ready(const vs_session *session);
 
 #ifdef __cplusplus
 }
