@@ -32,7 +32,8 @@
  * a stored count of 32 or more stays. Nothing else changes a count, and nothing but the light, vs_ready, goes by one: no slot's order, no answer
  * of a delivery or of asking, no sheet that is written. So counts that do not fit the slots, stored or filled in, make the light show nonsense, and
  * nothing more. A session that was stored before there were counts has 5,120 bytes, 8 fewer: it is never lent, for a call would go past its
- * end. Throw it away, read the sheet, and deliver again.
+ * end. Throw it away, read the sheet, and deliver again. And compile every file that includes this header again: one that was compiled with the
+ * header of then links all the same.
  *
  * loop_end is the last frame that sounds. Frame f is bytes 2f and 2f + 1 of a sample, and of a note for which a status other than VS_NONE is
  * answered every frame from loop_start to loop_end lies inside the sample: the loop's last byte is 2 * loop_end + 1, below length. By the rule
@@ -280,7 +281,8 @@ vs_answer vs_ask_in_place(const vs_session *session, uint64_t note);
 /* The rank-ready light, answered from the two counts alone: yes exactly when they are equal and not zero. It refuses nothing, and looks at no
  * slot (stored counts of 200 and 200 are a yes). It takes a few instructions, so a panel may ask as often as it likes, only not during a call that
  * writes the session. From an accepted sheet on, whatever is delivered, a yes says exactly that every listed note is open, and that at least one
- * is listed: what a walk over the slots would find. It stays until a sheet is read again. After a refused sheet the answer is no. */
+ * is listed: what a walk over the slots would find. It stays until a sheet is read again. After a refused sheet the answer is no. Of a stored
+ * session of which anything was changed it may be yes while asking a note answers 6: a host that restores one asks each note once first. */
 bool vs_ready(const vs_session *session);
 
 #ifdef __cplusplus

@@ -8,5 +8,7 @@ pub mod Unlisted
 pub mod Demand3
 pub mod Loops
 pub mod Counting
+pub mod Walk
+pub mod Keeping
 pub mod Light
 pub mod Proved

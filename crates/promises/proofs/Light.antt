@@ -1,28 +1,25 @@
--- The rank-ready light. Assumes nothing.
-use Prim.Native.Nat.{ℕ, zero, suc, _+_, _-_, _≤_, _<_}
-use mathlib.Core.Path.{_≡_, refl, sym, ap, _∙_, subst}
+-- The rank-ready light, from an accepted sheet. Assumes nothing.
+use Prim.Native.Nat.{ℕ, _+_, _-_, _≤_, _<_}
+use mathlib.Core.Path.{_≡_, refl, sym, ap, _∙_}
 use mathlib.Core.Logic.{_↔_, ⊎-elim}
 use mathlib.Core.List.{List, [], _∷_}
-use mathlib.Core.Bool.{Bool, true, false, true≢false}
+use mathlib.Core.Bool.{Bool, true, false}
 use native.Mathlib.Omega.{arith}
-use lib.ListN.{length, getD, set, length-set}
-use Rattle.truth.proofs.Tests.{agree, either, first, second, both, never, below-or-not}
+use lib.ListN.{length, length-set}
+use Rattle.truth.proofs.Tests.{below-or-not}
 use Rattle.refusal.specs.Table.{accepted, unlisted}
 use Rattle.rules.proofs.Rules.{is-note-is, note-rule-is}
 use Rattle.rules.proofs.Proved.{proved as rules}
 use Rattle.lines.specs.declared.Entry.{Entry}
 use Rattle.slots.specs.Slots.{emptySlot, waitingSlot}
-use Rattle.slots.specs.Delivery.{withPiece}
-use Rattle.slots.specs.Promises.{Outcome}
 use Rattle.slots.specs.declared.Slot.{Slot}
 use Rattle.slots.specs.declared.Answer.{Answer}
 use Rattle.slots.proofs.Proved.{proved as slots}
 use Rattle.session.specs.Sessions.{emptySession, slotIndex, slotOf, putSlot}
-use Rattle.session.specs.Light.{ready, openAfter}
-use Rattle.session.specs.Operations.{Operation, delivery, deliver, ask, perform}
-use Rattle.session.specs.Promises.{Listed, Waits, Row, row5, row6, row7, row8, row0, AskRow, ask5, ask6, ask-waiting, ask-decided}
+use Rattle.session.specs.Light.{ready}
+use Rattle.session.specs.Operations.{Operation, ask}
+use Rattle.session.specs.Promises.{Listed, AskRow, ask5, ask6, ask-waiting, ask-decided}
 use Rattle.session.specs.declared.Session.{Session}
-use Rattle.session.specs.declared.Delivered.{Delivered}
 use Rattle.session.proofs.Proved.{proved as session}
 use Rattle.session.proofs.Listed.{never-both}
 use Rattle.session.proofs.Putting.{index-lt, indices-differ}
@@ -32,157 +29,11 @@ use Rattle.sheet_promises.specs.Promises.{Among}
 use Rattle.sheet_promises.proofs.Listing.{one-of, found}
 use Rattle.sheet_promises.proofs.Proved.{proved as sheets, sheet-session}
 use Rattle.promises.specs.Sequences.{after, acceptedBytes}
-use Rattle.promises.specs.Light.{slotListed, slotOpen, someListed, listedOpen, walk, RankReady, howMany, CountsFit, Light}
-use Rattle.promises.proofs.Counting.{listed-is, open-is, unlisted-is, shut-is, one, counts-set, counting-is, same-many, at-most, some-counted, fully, some-place, place-some, all-places, places-all}
+use Rattle.promises.specs.Light.{slotListed, slotOpen, RankReady, howMany, CountsFit, Light}
+use Rattle.promises.proofs.Counting.{listed-is, unlisted-is, shut-is, one, counts-set, counting-is, same-many}
 use Rattle.promises.proofs.Demand3.{demand3}
-
--- a note and its place among the slots
-module _ (s : Session) (all : length (s .slots) ≡ 32) where
-  there : (i : ℕ) → i < 32 → slotOf s (suc i) ≡ getD (s .slots) i emptySlot
-  there i low =
-      let place : suc i - 1 ≡ i = omega arith in
-      rw place at (session .places s (suc i) (omega arith) (omega arith))
-
-  by-place : (note : ℕ) → 1 ≤ note → note ≤ 32 → slotOf s note ≡ getD (s .slots) (note - 1) emptySlot
-  by-place = session .places s
-
-  walk-is : (walk s ≡ true) ↔ RankReady s
-  unfolding walk
-  walk-is = (
-    λ h.
-        let (i, (low, listed)) = some-place emptySlot (s .slots) (first (someListed (s .slots)) _ h) in
-        record {
-          some = (suc i, (omega arith, omega arith, λ none. listed-is (getD (s .slots) i emptySlot) .0 listed (rw (there i (omega arith)) at none)));
-          every = λ note (low, high, listed).
-              let at = by-place note low high in
-              rw at
-              (open-is (getD (s .slots) (note - 1) emptySlot) .0
-              (all-places emptySlot (s .slots) (second (someListed (s .slots)) _ h) (note - 1) (omega arith, listed-is _ .1 (rw at at listed))));
-        },
-    λ r.
-        let (note, (low, high, listed)) = r .some in
-        both (someListed (s .slots)) (listedOpen (s .slots))
-        (place-some emptySlot (s .slots) (note - 1) (omega arith, listed-is _ .1 (rw (by-place note low high) at listed)))
-        (places-all emptySlot (s .slots)
-        (λ i (low, listed).
-        let at = there i (omega arith) in
-        open-is _ .1 (rw at at (r .every (suc i) (omega arith, omega arith, λ none. listed-is _ .0 listed (rw at at none)))))),
-  )
-
--- where the counts are those of the slots, the light is the walk's
-light-is-walk : (s : Session) → CountsFit s → ready s ≡ walk s
-unfolding walk
-light-is-walk s fit =
-    let some = some-counted (s .slots) in
-    let full = fully (s .slots) in
-    agree (ready s) _
-    (λ h.
-    let (same, lit) = session .lights (s .listed) (s .opened) .0 (rw (session .ready-by s) at h) in
-    both (someListed (s .slots)) (listedOpen (s .slots)) (some .1 (λ none. lit (omega (arith, same, fit .listed, none))))
-    (full .1 .1 (sym (fit .listed) ∙ same ∙ fit .opened)))
-    (λ h.
-    rw (session .ready-by s)
-    (session .lights (s .listed) (s .opened) .1 (
-      fit .listed ∙ full .1 .0 (second (someListed (s .slots)) _ h) ∙ sym (fit .opened),
-      λ none. some .0 (first (someListed (s .slots)) _ h) (omega (arith, fit .opened, none, full .1 .0 (second (someListed (s .slots)) _ h))),
-    )))
-
--- a delivery keeps the counts those of the slots
-module _ (s : Session) (fit : CountsFit s) (note : ℕ) (piece : List ℕ) where
-  -- the slot of a note that waited, with the piece
-  module _ (w : Waits s note) (fits : slotOf s note .state .total + length piece ≤ slotOf s note .sample .length) where
-    abbrev now : Slot
-    now = withPiece (slotOf s note) piece
-
-    outcome : Outcome (slotOf s note) piece now
-    outcome = slots .outcome (slotOf s note) piece (w .in-order) (w .waiting) fits
-
-    -- it is listed still
-    listed-still : now .status ≡ 0 → ⊥
-    listed-still none =
-        ⊎-elim
-        (λ fewer. let waits : now .status ≡ 1 = ap (λ (x : Slot). x .status) (outcome .waits fewer) in absurd (omega arith))
-        (λ most.
-        let reached : slotOf s note .state .total + length piece ≡ slotOf s note .sample .length = omega arith in
-        let shut : now .status ≡ 3 = outcome .shuts reached .1 (λ fitting. let opens : now .status ≡ 2 = outcome .opens reached .1 fitting in absurd (omega arith)) in
-        absurd (omega arith))
-        (below-or-not (slotOf s note .state .total + length piece) (slotOf s note .sample .length))
-
-    abbrev put : List Slot
-    put = set (s .slots) (slotIndex note) now
-
-    counted : (test : Slot → Bool) (a b : Bool) → test (slotOf s note) ≡ a → test now ≡ b → howMany test put + one a ≡ howMany test (s .slots) + one b
-    unfolding slotOf
-    counted test a b e f = rw (← e, ← f) (counts-set test (s .slots) (slotIndex note) now emptySlot (rw (fit .slots) (index-lt note)))
-
-    still-as-many : howMany slotListed put ≡ howMany slotListed (s .slots)
-    unfolding one
-    still-as-many =
-        let waits = w .waiting in
-        let same = counted slotListed true true (listed-is _ .1 (λ none. absurd (omega arith))) (listed-is _ .1 listed-still) in
-        omega arith
-
-    opened-as-many : openAfter (s .opened) 1 (now .status) ≡ howMany slotOpen put
-    unfolding one
-    opened-as-many =
-        let waits = w .waiting in
-        let was = shut-is (slotOf s note) (λ is-open. absurd (omega arith)) in
-        let count = session .open-count (s .opened) 1 (now .status) _ .0 refl in
-        ⊎-elim
-        (λ is.
-        let more = counted slotOpen false true was is in
-        let most = at-most slotOpen put in
-        let long = length-set (s .slots) (slotIndex note) now in
-        let low : s .opened < 32 = omega (arith, fit .slots, fit .opened) in
-        count .opening (λ h. absurd (omega arith)) (open-is now .0 is) low ∙ omega (arith, fit .opened))
-        (λ is.
-        let same = counted slotOpen false false was is in
-        count .not-opened (λ is-open. absurd (true≢false (sym (open-is now .1 is-open) ∙ is))) ∙ fit .opened ∙ omega arith)
-        (either (slotOpen now))
-
-    taken-fit : CountsFit (record { slots = putSlot s note now .slots; listed = s .listed; opened = openAfter (s .opened) 1 (now .status) })
-    unfolding putSlot
-    taken-fit =
-        record {
-          slots = length-set (s .slots) (slotIndex note) now ∙ fit .slots;
-          listed = fit .listed ∙ sym still-as-many;
-          opened = opened-as-many;
-        }
-
-  by-row : {d : Delivered} → Row s note piece d → CountsFit (d .session)
-  by-row (row5 u) = fit
-  by-row (row6 l x) = fit
-  by-row (row7 d) = fit
-  by-row (row8 w e) = fit
-  by-row (row0 w e) = taken-fit w e
-
-  one-kept : CountsFit (deliver s note piece .session)
-  one-kept = by-row (session .table s note piece (deliver s note piece) .0 refl)
-
-  -- where the light is on every listed note is open, so nothing is accepted
-  all-refused : ready s ≡ true → (deliver s note piece .answer .number ≡ accepted → ⊥) × (deliver s note piece .session ≡ s)
-  all-refused lit =
-      let yes-all = walk-is s (fit .slots) .0 (sym (light-is-walk s fit) ∙ lit) in
-      let never-taken : deliver s note piece .answer .number ≡ accepted → ⊥ =
-      λ h. let w = session .takes s note piece .0 h .0 in absurd (omega (arith, w .waiting, yes-all .every note (w .listed))) in
-      (never-taken, session .refused s note piece never-taken)
-
-kept-all : (s : Session) (os : List Operation) → CountsFit s → CountsFit (after s os)
-unfolding after
-kept-all s [] fit = fit
-kept-all s (delivery note piece ∷ os) fit = kept-all _ os (rw (session .delivers s note piece) (one-kept s fit note piece))
-
-stays-lit : (s : Session) (os : List Operation) → CountsFit s → ready s ≡ true → after s os ≡ s
-unfolding after
-stays-lit s [] fit lit = refl
-stays-lit s (delivery note piece ∷ os) fit lit =
-    let same : perform s (delivery note piece) .session ≡ s = rw (session .delivers s note piece) (all-refused s fit note piece lit .1) in
-    rw same (stays-lit s os fit lit)
-
-listed-after : (s : Session) (os : List Operation) → after s os .listed ≡ s .listed
-unfolding after
-listed-after s [] = refl
-listed-after s (delivery note piece ∷ os) = listed-after _ os ∙ rw (session .delivers s note piece) (session .counts s note piece .listed)
+use Rattle.promises.proofs.Walk.{walk-is, light-is-walk, dark}
+use Rattle.promises.proofs.Keeping.{all-refused, kept-all, stays-lit, listed-after}
 
 -- the slots of a sheet's session, counted: each entry lists one note more, and opens none
 module _ (s : Session) (e : Entry) (all : length (s .slots) ≡ 32) (none : slotOf s (e .note) .status ≡ 0) where
@@ -292,9 +143,6 @@ module _ (text : List ℕ) (es : List Entry) (sheet : IsSheet text es) (os : Lis
     λ lit e among. let t = told e among in t .1 ∙ walk-is s (fit .slots) .0 (sym (light-is-walk s fit) ∙ lit) .every (e .note) (t .0),
     λ all. light-is-walk s fit ∙ walk-is s (fit .slots) .1 (from-every all),
   )
-
-dark : (s : Session) → s .opened ≡ 0 → ready s ≡ false
-dark s none = never _ (λ lit. session .lights (s .listed) (s .opened) .0 (rw (session .ready-by s) at lit) .1 none)
 
 pub light : Light
 light =

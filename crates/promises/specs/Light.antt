@@ -28,7 +28,7 @@ slotListed slot = not (eqb (slot .status) none)
 unfoldable pub slotOpen : Slot → Bool
 slotOpen slot = eqb (slot .status) opened
 
--- "the full walk over the slots", with no count in it: at least one is listed,
+-- "the full walk over the slots", with no count in it, by their status alone: at least one is listed,
 unfoldable pub someListed : List Slot → Bool
 someListed [] = false
 someListed (slot ∷ slots) = slotListed slot || someListed slots
@@ -70,6 +70,7 @@ pub record Counting (test : Slot → Bool) (slot : Slot) (slots : List Slot) : T
   pub is-open : (slotOpen slot ≡ true) ↔ (slot .status ≡ 2)
 
 pub record Light : Type 0 where
+  -- the walk says what its words say, and counting is counting
   pub walks : (s : Session) → length (s .slots) ≡ 32 → (walk s ≡ true) ↔ RankReady s
   pub counting : (test : Slot → Bool) (slot : Slot) (slots : List Slot) → Counting test slot slots
   -- "after any sequence of calls from an accepted sheet" the counts are those of the slots, and as many are listed as the sheet has lines

@@ -1,6 +1,6 @@
 -- "These must be rejected" (document 01, "How tight the promises are"): each wrong program breaks the promise that 01 names for it. And
 -- 2/13: any other rule for loops allows one that plays a frame outside its sample, or no frame, or refuses one that keeps inside. And 3/13:
--- no other answer from the two counts is the walk's.
+-- no other answer from two counts that 32 slots can have is the walk's.
 use Prim.Native.Nat.{ℕ, _+_, _/_, _≤_, _<_}
 use mathlib.Core.Path.{_≡_}
 use mathlib.Core.List.{List}
@@ -68,8 +68,8 @@ pub record Promises : Type 0 where
       → PlaysOf rule → ⊥
   -- an old loop, its end lowered by one to its last frame, is allowed exactly where it was
   pub lowered : (bytes start last : ℕ) → loopRule bytes start last ≡ oldLoopRule bytes start (last + 1)
-  -- 3/13: an answer from the two counts that anywhere differs from "yes exactly when they are equal and not zero" is not the walk's: always
-  -- yes, always no, yes of 0 and 0, from one of them alone
+  -- 3/13: an answer from the two counts that differs from "yes exactly when they are equal and not zero" at any that 32 slots can have is not
+  -- the walk's: always yes, always no, yes of 0 and 0, from one of them alone. (Of other numbers the light is `session`'s promise `lights`.)
   pub other-lights :
       (light : (listed opened : ℕ) → Bool) (listed opened : ℕ) → opened ≤ listed → listed ≤ 32
       → (light listed opened ≡ allOpen listed opened → ⊥)

@@ -8,8 +8,8 @@ use Rattle.session.specs.Sessions.{slotOf, putSlot}
 use Rattle.session.specs.declared.Session.{Session}
 
 -- "yes exactly when they are equal and not zero"
-unfoldable pub allOpen : (listed opened : ℕ) → Bool
-allOpen listed opened = eqb listed opened && not (eqb opened 0)
+unfoldable pub allOpen : (listed openOnes : ℕ) → Bool
+allOpen listed openOnes = eqb listed openOnes && not (eqb openOnes 0)
 
 unfoldable pub ready : Session → Bool
 ready s = allOpen (s .listed) (s .opened)
