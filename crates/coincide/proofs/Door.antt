@@ -1,5 +1,5 @@
 -- `door`: any two results that meet a contract coincide. Assumes nothing.
-use mathlib.Core.Path.{_≡_, refl, sym, ap, _∙_}
+use mathlib.Core.Path.{_≡_, refl, sym, _∙_}
 use mathlib.Core.Bool.{true}
 use mathlib.Core.Logic.{_↔_}
 use Prim.Native.Nat.{ℕ}
@@ -8,15 +8,12 @@ use denote.Ref.{now}
 use Rattle.session.specs.declared.Session.{Session}
 use Rattle.hash.specs.declared.Hash.{Hash}
 use Rattle.writing.specs.Promises.{Row}
-use Rattle.session.specs.declared.Delivered.{Delivered}
 use Rattle.session.specs.Promises.{AskRow, Row as DeliveryRow}
 use Rattle.session.proofs.Proved.{proved as session}
-use Rattle.slots.specs.declared.Answer.{Answer}
-use Rattle.sheet.specs.declared.Sheet.{Sheet}
 use Rattle.writing.proofs.Proved.{proved as writing}
 use Rattle.coincide.proofs.Tells.{tells}
-use Rattle.coincide.proofs.Session.{lit-means}
-use Rattle.coincide.proofs.Reading.{SheetRow, reads}
+use Rattle.coincide.proofs.Session.{lit-means, delivered}
+use Rattle.coincide.proofs.Reading.{SheetRow, reads, reads-whole}
 use Rattle.coincide.specs.Coincide.{Coincide, CoincideAt, Means, Says}
 use Rattle.door.proofs.vs_update_in_place as vs-update-in-place′
 use Rattle.door.proofs.vs_deliver_in_place as vs-deliver-in-place′
@@ -94,24 +91,13 @@ vs-deliver-rows κs a r e = session .table (a .0) (a .1 .0) (now (a .1 .1 .0)) r
 pub vs-ask-in-place-rows : Means vs-ask-in-place′.ended (vs-ask-in-place-says .claim) (λ κs a r e. AskRow (now (a .0)) (a .1 .0) r)
 vs-ask-in-place-rows κs a r e = session .ask-table (now (a .0)) (a .1 .0) r
 
-joined : (d : Delivered) (r : Answer) (s : Session) → r ≡ d .answer → s ≡ d .session → record { answer = r; session = s } ≡ d
-joined d r s e f = rw (e, f) refl
-
 pub vs-deliver-in-place-rows : Means vs-deliver-in-place′.ended (vs-deliver-in-place-says .claim)
     (λ κs a r e. DeliveryRow (now (a .0)) (a .1 .0) (now (a .1 .1 .0)) (record { answer = r; session = now (e .0) }))
-vs-deliver-in-place-rows κs a r e =
-    let rows = session .table (now (a .0)) (a .1 .0) (now (a .1 .1 .0)) (record { answer = r; session = now (e .0) }) in (
-      λ p. rows .0 (joined _ r (now (e .0)) (p .0) (p .1)),
-      λ row. (ap (λ (d : Delivered). d .answer) (rows .1 row), ap (λ (d : Delivered). d .session) (rows .1 row)),
-    )
+vs-deliver-in-place-rows κs a r e = delivered (now (a .0)) (a .1 .0) (now (a .1 .1 .0)) r (now (e .0))
 
 -- and so of reading a sheet: this text, and the session that is left, whatever it was before
 pub vs-sheet-read-rows : Means vs-sheet-read′.ended vs-sheet-read′.Reads.Post (λ κs a r e. SheetRow (now (a .0)) (r .verdict) (r .session))
-vs-sheet-read-rows κs a r e =
-    let rows = reads (now (a .0)) (r .verdict) (r .session) in (
-      λ p. rows .0 (ap (λ (x : Sheet). x .verdict) p, ap (λ (x : Sheet). x .session) p),
-      λ row. let (v, s) = rows .1 row in λ i. record { verdict = v i; session = s i },
-    )
+vs-sheet-read-rows κs a r e = reads-whole (now (a .0)) r
 
 pub vs-sheet-read-in-place-rows : Means vs-sheet-read-in-place′.ended (vs-sheet-read-in-place-says .claim) (λ κs a r e. SheetRow (now (a .1 .0)) r (now (e .0)))
 vs-sheet-read-in-place-rows κs a r e = reads (now (a .1 .0)) r (now (e .0))

@@ -1,4 +1,5 @@
 pub mod Tells
+pub mod Reading
 pub mod Refusal
 pub mod Buffers
 pub mod Units
@@ -23,6 +24,5 @@ pub mod HashInPlace
 pub mod SessionInPlace
 pub mod Writing
 pub mod Writer
-pub mod Reading
 pub mod Door
 pub mod Lent

@@ -1,6 +1,6 @@
 -- What reading a sheet answers and leaves, by the grammar. Assumes nothing.
 use Prim.Native.Nat.{ℕ}
-use mathlib.Core.Path.{_≡_, refl, sym, _∙_, subst}
+use mathlib.Core.Path.{_≡_, refl, sym, ap, _∙_, subst}
 use mathlib.Core.Logic.{_↔_, ⊎-elim}
 use mathlib.Core.List.{List, []}
 use borrow.Author.Tests.{eqb-true, eqb-false}
@@ -11,6 +11,7 @@ use Rattle.lines.specs.declared.Entry.{Entry}
 use Rattle.session.specs.declared.Session.{Session}
 use Rattle.sheet.specs.Judging.{sheetOf}
 use Rattle.sheet.specs.declared.Verdict.{Verdict}
+use Rattle.sheet.specs.declared.Sheet.{Sheet}
 use Rattle.sheet_promises.specs.Grammar.{IsSheet}
 use Rattle.sheet_promises.specs.Faults.{Refused}
 use Rattle.sheet_promises.specs.Promises.{Lists}
@@ -49,3 +50,10 @@ module _ (text : List ℕ) where
 
   pub reads : (v : Verdict) (s : Session) → Answers v s ↔ SheetRow text v s
   reads v s = (holds-row, row-holds)
+
+  -- both in one answer
+  pub reads-whole : (r : Sheet) → (r ≡ sheetOf text) ↔ SheetRow text (r .verdict) (r .session)
+  reads-whole r = (
+    λ e. holds-row (ap (λ (x : Sheet). x .verdict) e, ap (λ (x : Sheet). x .session) e),
+    λ row. let (v, s) = row-holds row in λ i. record { verdict = v i; session = s i },
+  )

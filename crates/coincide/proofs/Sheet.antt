@@ -1,6 +1,8 @@
--- `sheet`: any two results that meet a contract coincide. Assumes nothing.
+-- `sheet`: any two results that meet a contract coincide; and that of reading is what is promised, of its own text. Assumes nothing.
 use mathlib.Core.Path.{sym, _∙_}
-use Rattle.coincide.specs.Coincide.{Coincide}
+use denote.Ref.{now}
+use Rattle.coincide.proofs.Reading.{SheetRow, reads-whole}
+use Rattle.coincide.specs.Coincide.{Coincide, Means}
 use Rattle.sheet.proofs.header_at as header-at′
 use Rattle.sheet.proofs.header_number as header-number′
 use Rattle.sheet.proofs.entry_number as entry-number′
@@ -33,3 +35,6 @@ listing-at κs a x y e f p q = p ∙ sym q
 
 pub read : Coincide read′.ended read′.Reads.Post
 read κs a x y e f p q = p ∙ sym q
+
+pub read-rows : Means read′.ended read′.Reads.Post (λ κs a r e. SheetRow (now (a .0)) (r .verdict) (r .session))
+read-rows κs a r e = reads-whole (now (a .0)) r

@@ -45,7 +45,8 @@ pub data LoadedTo (s : Session) : (n : ℕ) → Session → Type 0 where
 abbrev pub Loaded : Session → Session → Type 0
 Loaded s t = LoadedTo s 32 t
 
--- something that goes from one session to another, done to a note's slot: whatever session the slot stands in. The open count goes with it
+-- something that goes from one session to another, done to a note's slot: whatever session the slot stands in. The open count goes by this
+-- slot's status before and after
 abbrev pub OfSlot : (Session → Session → Type 0) → (note : ℕ) → Slot → Slot → Type 0
 OfSlot goes note slot after = (s : Session) → length (s .slots) ≡ 32 → slotOf s note ≡ slot → goes s (putCounted s note after)
 

@@ -74,4 +74,9 @@ shown-refused text number line printed r (loaded good l) =
     absurd (e .1 (sym (ap (λ (v : Verdict). v .number) (e .0)) ∙ good))
 
 pub proved : Promises
-proved = record { accepted = shown-accepted; refused = shown-refused }
+proved =
+    record {
+      loads = λ s t l. let way = loaded-reached s t 32 l in (way .deliveries, way .reached);
+      accepted = shown-accepted;
+      refused = shown-refused;
+    }

@@ -14,7 +14,7 @@ use Rattle.sheet_promises.specs.Faults.{Refused}
 use Rattle.sheet_promises.specs.Promises.{Among}
 use Rattle.promises.specs.Sequences.{after, acceptedBytes}
 use Rattle.report.specs.Report.{noteLine, refusedLine, lineOf, report}
-use Rattle.loader.specs.Loading.{ShownOf}
+use Rattle.loader.specs.Loading.{Loaded, ShownOf}
 
 -- the line of a listed note with record r, `bytes` being the bytes accepted for it
 pub record LineTells (note : ℕ) (r : Record) (bytes line : List ℕ) : Type 0 where
@@ -51,6 +51,8 @@ pub record Told (text : List ℕ) (es : List Entry) (printed : List ℕ) : Type 
   pub no-line : (note : ℕ) → ((e : Entry) → Among e es → e .note ≡ note → ⊥) → lineOf note (ask session note) ≡ []
 
 pub record Promises : Type 0 where
+  -- a session that is loaded, its counts too, is one that deliveries lead to
+  pub loads : (s t : Session) → Loaded s t → (os : List Operation) × (t ≡ after s os)
   -- of a text that is a sheet, and of one that is not
   pub accepted : (text : List ℕ) (es : List Entry) (printed : List ℕ) → IsSheet text es → ShownOf text printed → Told text es printed
   pub refused :

@@ -1,5 +1,6 @@
 pub mod LineRecord
 pub mod Examples
+pub mod Sequencing
 pub mod OneNote
 pub mod Reordering
 pub mod Reached

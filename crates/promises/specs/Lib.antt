@@ -1,5 +1,6 @@
 pub mod Examples
 pub mod Sequences
+pub mod Sequencing
 pub mod Demand3
 pub mod Reordering
 pub mod Loops

@@ -1,5 +1,6 @@
 -- The rank-ready light: 3/13. "The answer equals the full walk over the slots after any sequence of calls from an accepted sheet, and no
--- later delivery turns a yes into a no."
+-- later delivery turns a yes into a no." Of the calls deliveries alone change a session: asking, the light and writing only read it, and
+-- reading a sheet begins anew.
 use Prim.Native.Nat.{ℕ, suc, _+_}
 use mathlib.Core.Path.{_≡_}
 use mathlib.Core.Logic.{_↔_}

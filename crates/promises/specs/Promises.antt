@@ -1,5 +1,6 @@
 -- What this crate promises, all of it proved in proofs/Proved.antt.
 use Rattle.promises.specs.Examples.{Hold, examples}
+use Rattle.promises.specs.Sequencing.{Sequencing}
 use Rattle.promises.specs.Demand3.{Demand3}
 use Rattle.promises.specs.Reordering.{Reordering}
 use Rattle.promises.specs.Loops.{Loops}
@@ -8,6 +9,8 @@ use Rattle.promises.specs.Light.{Light}
 pub record Promises : Type 0 where
   -- "Marked P are proved about the definitions, gathered in one list under a single theorem"
   pub small-examples : Hold examples
+  -- what "after any sequence of deliveries", "the bytes accepted for it" and "each note's own" mean, step by step
+  pub sequencing : Sequencing
   -- demand 3, all but its last sentence
   pub demand3 : Demand3
   -- its last sentence

@@ -68,8 +68,8 @@ pub record Promises : Type 0 where
       → PlaysOf rule → ⊥
   -- an old loop, its end lowered by one to its last frame, is allowed exactly where it was
   pub lowered : (bytes start last : ℕ) → loopRule bytes start last ≡ oldLoopRule bytes start (last + 1)
-  -- 3/13: an answer from the two counts that differs from "yes exactly when they are equal and not zero" at any that 32 slots can have is not
-  -- the walk's: always yes, always no, yes of 0 and 0, from one of them alone. (Of other numbers the light is `session`'s promise `lights`.)
+  -- 3/13: an answer from the two counts that differs from "yes exactly when they are equal and not zero" at any that 32 slots can have is
+  -- not the walk's: always yes, always no, yes of 0 and 0, from one of them alone. (For other numbers there is `lights` of `session`.)
   pub other-lights :
       (light : (listed opened : ℕ) → Bool) (listed opened : ℕ) → opened ≤ listed → listed ≤ 32
       → (light listed opened ≡ allOpen listed opened → ⊥)

@@ -62,6 +62,7 @@ proved =
       takes = accepted-when;
       counted = accepted-counts;
       by-slot = λ s note piece. refl;
+      on-note-is = λ s note f. refl;
       ask-by-slot = λ s note. refl;
       on-note = λ s note piece. refl;
       note-of = λ note piece. refl;

@@ -7,7 +7,7 @@ use mathlib.Core.Bool.{true, false}
 use lib.ListN.{length, getD}
 use Rattle.refusal.specs.Table.{accepted, unlisted, slotNotInOrder, decided, pastLength}
 use Rattle.slots.specs.Slots.{waiting, slotInOrder, emptySlot}
-use Rattle.slots.specs.Delivery.{withPiece, deliverTo, deliverAt, askAt}
+use Rattle.slots.specs.Delivery.{withPiece, deliverTo, onSlot, deliverAt, askAt}
 use Rattle.slots.specs.Promises.{Decided}
 use Rattle.slots.specs.declared.Slot.{Slot}
 use Rattle.slots.specs.declared.Answer.{Answer}
@@ -150,7 +150,7 @@ pub record Promises : Type 0 where
   -- when a piece is accepted, and what is counted then
   pub takes : TakesOf deliver
   pub counted : CountedOf deliver
-  -- what is done with one slot, and a number, is what is done with the session
+  -- what is done with one slot, and a number, is what is done with the session: by a delivery, and by anything else
   pub by-slot :
       (s : Session) (note : ℕ) (piece : List ℕ)
       → deliver s note piece
@@ -160,6 +160,17 @@ pub record Promises : Type 0 where
           slots = putSlot s note (deliverAt (slotOf s note) note piece .slot) .slots;
           listed = s .listed;
           opened = openAfter (s .opened) (slotOf s note .status) (deliverAt (slotOf s note) note piece .slot .status);
+        };
+      }
+  pub on-note-is :
+      (s : Session) (note : ℕ) (f : Slot → Step)
+      → onNote s note f
+      ≡ record {
+        answer = onSlot (slotOf s note) note f .answer;
+        session = record {
+          slots = putSlot s note (onSlot (slotOf s note) note f .slot) .slots;
+          listed = s .listed;
+          opened = openAfter (s .opened) (slotOf s note .status) (onSlot (slotOf s note) note f .slot .status);
         };
       }
   pub ask-by-slot : (s : Session) (note : ℕ) → ask s note ≡ askAt (slotOf s note) note

@@ -67,7 +67,7 @@ pub record Promises : Type 0 where
   pub of-line : (last : ℕ) (l : NoteLine) → OfLine last l
   pub of-notes : (text : List ℕ) (at line last : ℕ) → OfNotes text at line last
   pub of-sheet : (text : List ℕ) (at : ℕ) → OfSheet text at
-  -- the note lines begin behind the header, and a refused sheet has none. (A count that is accepted has nothing beyond its last byte.)
+  -- the note lines begin behind the header, and a refused sheet has none. (An accepted sheet's count is at most 32, which `% 256` leaves.)
   pub starts :
       (h : Field) (v : Verdict) → v .number ≡ accepted
       → start h v ≡ record { at = h .stop .at; notes = h .value; listed = h .value % 256 }

@@ -35,7 +35,8 @@ notListed =
       status = 0;
     }
 
--- "An accepted sheet's session lists exactly the notes of its lines, each waiting, with its own line's record and a fresh state."
+-- "An accepted sheet's session lists exactly the notes of its lines, each waiting, with its own line's record and a fresh state."; with no
+-- entries it is the "session with no note listed"
 pub record Lists (s : Session) (es : List Entry) : Type 0 where
   pub slots : length (s .slots) ≡ 32
   pub listed : (e : Entry) → Among e es → slotOf s (e .note) ≡ freshlyWaiting (e .sample)

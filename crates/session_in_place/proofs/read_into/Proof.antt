@@ -140,7 +140,7 @@ module _ {M : Type 1} (𝓤 : URA M) (H : Heap 𝓤) (A : Atoms 𝓤) (W : Given
         asks W start-of.ended tt tt (h .field, (j, tt)) (machine Number (h .field) ∷ [], (machine Judged j ∷ [], tt)) (start-of.clauses 𝓤 H A mem run) tt tt (machine Begun) (LL.tells (Begun .type) (Begun .laws)) (λ r. r ≡ start (h .field) j) !
         fm starts (id⊢ 𝓤 (emp 𝓤)) (λ r ws. id⊢ 𝓤 _) (and-then ! (load ! (from ! (stop !)) (look ! 11 refl)) (and-then ! (load ! (from ! (stop !)) (look ! 21 refl)) (no-more !))) (λ f ef f-is. drop ! $
         land ! (from ! (stop !)) (init ! 16 refl (typed Begun 𝓤 H A W f f-is)) $
-        -- the session is lent on, and no note is withNotes
+        -- the session is lent on, and no note is listed
         assigns ! (addr ! (from ! (hop ! (look ! 26 refl) (stop !)))) (from ! (stop !)) (init ! 6 refl (tt, tt)) $
         move ! (3 ∷ 2 ∷ []) $ opened ! tt AllSlots (named 0) s $ lends ! tt AllSlots (named 0) (s .now) (s .ptr .0) (s .ptr .1) (λ ν γ. move ! (1 ∷ 0 ∷ []) $
         asks-last W none.ended (ν ∷ [], tt) (fullShare, tt) (lentAs AllSlots (s .ptr .0) (s .ptr .1) γ (s .now), tt) (at ∷ [], tt) (none.clauses 𝓤 H A mem run) tt tt (λ _. vunit) (λ r vs is. is) (λ r ws. ws .0 ≡ emptySession) !
