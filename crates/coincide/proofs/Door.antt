@@ -15,6 +15,13 @@ use Rattle.coincide.proofs.Tells.{tells}
 use Rattle.coincide.proofs.Session.{lit-means, delivered}
 use Rattle.coincide.proofs.Reading.{SheetRow, reads, reads-whole}
 use Rattle.coincide.specs.Coincide.{Coincide, CoincideAt, Means, Says}
+use Rattle.hash.specs.declared.Digest.{Digest}
+use Rattle.mac.specs.Rows.{StartRow, UpdateRow, FinishRow, CodeRow, HeldRow}
+use Rattle.mac.specs.declared.Code.{Code}
+use Rattle.mac.proofs.Proved.{proved as codes}
+use Rattle.keyed_promises.specs.Answers.{Answered}
+use Rattle.keyed_promises.proofs.Proved.{proved as keyed}
+use Rattle.coincide.proofs.Coding.{taken, keyed-whole}
 use Rattle.door.proofs.vs_update_in_place as vs-update-in-place′
 use Rattle.door.proofs.vs_deliver_in_place as vs-deliver-in-place′
 use Rattle.door.proofs.vs_ask_in_place as vs-ask-in-place′
@@ -36,6 +43,15 @@ use Rattle.door.proofs.vs_remove_part as vs-remove-part′
 use Rattle.door.proofs.vs_sheet_read as vs-sheet-read′
 use Rattle.door.proofs.vs_deliver as vs-deliver′
 use Rattle.door.proofs.vs_ask as vs-ask′
+use Rattle.door.proofs.vs_code_start as vs-code-start′
+use Rattle.door.proofs.vs_code_update as vs-code-update′
+use Rattle.door.proofs.vs_code_update_in_place as vs-code-update-in-place′
+use Rattle.door.proofs.vs_code_finish as vs-code-finish′
+use Rattle.door.proofs.vs_code_of as vs-code-of′
+use Rattle.door.proofs.vs_compare_code as vs-compare-code′
+use Rattle.door.proofs.vs_compare_code_of as vs-compare-code-of′
+use Rattle.door.proofs.vs_keyed_read as vs-keyed-read′
+use Rattle.door.proofs.vs_keyed_read_in_place as vs-keyed-read-in-place′
 
 abbrev pub vs-update-in-place-says : Says vs-update-in-place′.ended (λ M. vs-update-in-place′.clauses {M = M})
 vs-update-in-place-says = record { claim = _; stated = λ M 𝓤 H A mem run κs a g r e. refl }
@@ -146,3 +162,67 @@ vs-deliver κs a x y e f p q = p ∙ sym q
 
 pub vs-ask : Coincide vs-ask′.ended vs-ask′.Reads.Post
 vs-ask κs a x y e f p q = p ∙ sym q
+
+-- 4/13: codes, and the keyed sheet
+pub vs-code-start : Coincide vs-code-start′.ended vs-code-start′.Reads.Post
+vs-code-start κs a x y e f p q = p ∙ sym q
+
+pub vs-code-start-rows : Means vs-code-start′.ended vs-code-start′.Reads.Post (λ κs a r e. StartRow (now (a .0)) r)
+vs-code-start-rows κs a r e = codes .tables .starts (now (a .0)) r
+
+pub vs-code-update : Coincide vs-code-update′.ended vs-code-update′.Reads.Post
+vs-code-update κs a x y e f p q = p ∙ sym q
+
+pub vs-code-update-rows : Means vs-code-update′.ended vs-code-update′.Reads.Post (λ κs a r e. UpdateRow (a .0) (now (a .1 .0)) r)
+vs-code-update-rows κs a r e = codes .tables .updates (a .0) (now (a .1 .0)) r
+
+abbrev pub vs-code-update-in-place-says : Says vs-code-update-in-place′.ended (λ M. vs-code-update-in-place′.clauses {M = M})
+vs-code-update-in-place-says = record { claim = _; stated = λ M 𝓤 H A mem run κs a g r e. refl }
+
+pub vs-code-update-in-place : CoincideAt vs-code-update-in-place′.ended Code (λ κs e. now (e .0)) (vs-code-update-in-place-says .claim)
+vs-code-update-in-place κs a x y e f p q = (p .0 ∙ sym (q .0), p .1 ∙ sym (q .1))
+
+pub vs-code-update-in-place-rows : Means vs-code-update-in-place′.ended (vs-code-update-in-place-says .claim)
+    (λ κs a r e. UpdateRow (now (a .0)) (now (a .1 .0)) (record { number = r; state = now (e .0) }))
+vs-code-update-in-place-rows κs a r e = taken (now (a .0)) (now (a .1 .0)) r (now (e .0))
+
+pub vs-code-finish : Coincide vs-code-finish′.ended vs-code-finish′.Reads.Post
+vs-code-finish κs a x y e f p q = p ∙ sym q
+
+pub vs-code-finish-rows : Means vs-code-finish′.ended vs-code-finish′.Reads.Post (λ κs a r e. FinishRow (a .0) r)
+vs-code-finish-rows κs a r e = codes .tables .finishes (a .0) r
+
+pub vs-code-of : Coincide vs-code-of′.ended vs-code-of′.Reads.Post
+vs-code-of κs a x y e f p q = p ∙ sym q
+
+pub vs-code-of-rows : Means vs-code-of′.ended vs-code-of′.Reads.Post (λ κs a r e. CodeRow (now (a .0)) (now (a .1 .0)) r)
+vs-code-of-rows κs a r e = codes .tables .codes (now (a .0)) (now (a .1 .0)) r
+
+pub vs-compare-code : Coincide vs-compare-code′.ended vs-compare-code′.Reads.Post
+vs-compare-code κs a x y e f p q = p ∙ sym q
+
+pub vs-compare-code-rows : Means vs-compare-code′.ended vs-compare-code′.Reads.Post (λ κs a r e. (d : Digest) × FinishRow (a .0) d × HeldRow d (now (a .1 .0)) r)
+vs-compare-code-rows κs a r e = codes .tables .compares-state (a .0) (now (a .1 .0)) r
+
+pub vs-compare-code-of : Coincide vs-compare-code-of′.ended vs-compare-code-of′.Reads.Post
+vs-compare-code-of κs a x y e f p q = p ∙ sym q
+
+pub vs-compare-code-of-rows : Means vs-compare-code-of′.ended vs-compare-code-of′.Reads.Post
+    (λ κs a r e. (d : Digest) × CodeRow (now (a .0)) (now (a .1 .0)) d × HeldRow d (now (a .1 .1 .0)) r)
+vs-compare-code-of-rows κs a r e = codes .tables .compares-message (now (a .0)) (now (a .1 .0)) (now (a .1 .1 .0)) r
+
+pub vs-keyed-read : Coincide vs-keyed-read′.ended vs-keyed-read′.Reads.Post
+vs-keyed-read κs a x y e f p q = p ∙ sym q
+
+pub vs-keyed-read-rows : Means vs-keyed-read′.ended vs-keyed-read′.Reads.Post (λ κs a r e. Answered (now (a .0)) (now (a .1 .0)) (r .verdict) (r .session))
+vs-keyed-read-rows κs a r e = keyed-whole (now (a .0)) (now (a .1 .0)) r
+
+abbrev pub vs-keyed-read-in-place-says : Says vs-keyed-read-in-place′.ended (λ M. vs-keyed-read-in-place′.clauses {M = M})
+vs-keyed-read-in-place-says = record { claim = _; stated = λ M 𝓤 H A mem run κs a g r e. refl }
+
+pub vs-keyed-read-in-place : CoincideAt vs-keyed-read-in-place′.ended Session (λ κs e. now (e .0)) (vs-keyed-read-in-place-says .claim)
+vs-keyed-read-in-place κs a x y e f p q = (p .0 ∙ sym (q .0), p .1 ∙ sym (q .1))
+
+pub vs-keyed-read-in-place-rows : Means vs-keyed-read-in-place′.ended (vs-keyed-read-in-place-says .claim)
+    (λ κs a r e. Answered (now (a .1 .0)) (now (a .1 .1 .0)) r (now (e .0)))
+vs-keyed-read-in-place-rows κs a r e = keyed .answers (now (a .1 .0)) (now (a .1 .1 .0)) r (now (e .0))

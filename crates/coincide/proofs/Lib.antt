@@ -1,5 +1,6 @@
 pub mod Tells
 pub mod Reading
+pub mod Coding
 pub mod Refusal
 pub mod Buffers
 pub mod Units
@@ -15,13 +16,17 @@ pub mod Folding
 pub mod Padding
 pub mod Padded
 pub mod Hash
+pub mod Mac
 pub mod Slots
 pub mod Session
 pub mod Report
 pub mod Sheet
+pub mod Keyed
 pub mod Reader
 pub mod HashInPlace
+pub mod MacInPlace
 pub mod SessionInPlace
+pub mod KeyedInPlace
 pub mod Writing
 pub mod Writer
 pub mod Door

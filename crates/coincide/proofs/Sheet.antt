@@ -10,6 +10,7 @@ use Rattle.sheet.proofs.note_number as note-number′
 use Rattle.sheet.proofs.judged as judged′
 use Rattle.sheet.proofs.start_of as start-of′
 use Rattle.sheet.proofs.listing_at as listing-at′
+use Rattle.sheet.proofs.filled as filled′
 use Rattle.sheet.proofs.read as read′
 
 pub header-at : Coincide header-at′.ended header-at′.Reads.Post
@@ -32,6 +33,9 @@ start-of κs a x y e f p q = p ∙ sym q
 
 pub listing-at : Coincide listing-at′.ended listing-at′.Reads.Post
 listing-at κs a x y e f p q = p ∙ sym q
+
+pub filled : Coincide filled′.ended filled′.Reads.Post
+filled κs a x y e f p q = p ∙ sym q
 
 pub read : Coincide read′.ended read′.Reads.Post
 read κs a x y e f p q = p ∙ sym q

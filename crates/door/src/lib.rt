@@ -1,9 +1,18 @@
 // What a C host links (host/veenstipper.h). Nothing here decides anything: each function passes on, and its contract is that of what it
 // passes on to.
+mod codes;
 mod in_place;
 
+pub use codes::vs_code_finish;
+pub use codes::vs_code_of;
+pub use codes::vs_code_start;
+pub use codes::vs_code_update;
+pub use codes::vs_compare_code;
+pub use codes::vs_compare_code_of;
 pub use in_place::vs_ask_in_place;
+pub use in_place::vs_code_update_in_place;
 pub use in_place::vs_deliver_in_place;
+pub use in_place::vs_keyed_read_in_place;
 pub use in_place::vs_ready;
 pub use in_place::vs_sheet_read_in_place;
 pub use in_place::vs_sheet_write;
@@ -18,6 +27,7 @@ ghost use Rattle.hash.specs.Update.{update};
 ghost use Rattle.hash.specs.Digests.{finish, digest, compareMessage, compareState};
 ghost use Rattle.session.specs.Operations.{deliver, ask};
 ghost use Rattle.sheet.specs.Judging.{sheetOf};
+ghost use Rattle.keyed.specs.Keyed.{keyedOf};
 use hash::Compared;
 use hash::Digest;
 use hash::Hash;
@@ -128,6 +138,13 @@ pub extern "C" fn vs_sheet_read(text: &[u8]) -> Sheet
     ensures { λ r. ⌜ r ≡ sheetOf (now (text .entry)) ⌝ }
 {
     sheet::read(text)
+}
+
+#[no_mangle]
+pub extern "C" fn vs_keyed_read(key: &[u8], text: &[u8]) -> Sheet
+    ensures { λ r. ⌜ r ≡ keyedOf (now (key .entry)) (now (text .entry)) ⌝ }
+{
+    keyed::read(key, text)
 }
 
 #[no_mangle]

@@ -11,7 +11,7 @@ use Rattle.lines.specs.declared.Stop.{Stop}
 use Rattle.sheet.specs.Filling.{listing, start}
 use Rattle.sheet.specs.Promises.{Promises}
 use Rattle.sheet.proofs.Verdicts.{header-ill, header-bad, header-good, entry-note, entry-length, entry-loop, entry-good, line-ill, line-well, header-decides, notes-decide, this-decides, rest-decides, text-follows, nothing-follows}
-use Rattle.sheet.specs.Judging.{verdictAt}
+use Rattle.sheet.specs.Judging.{verdictAt, entriesAt, withNotes}
 
 ill : (s : Stop) → (s .wanted ≡ 0 → ⊥) → isGood s ≡ false
 ill s bad = ne-eqb (s .wanted) 0 bad
@@ -20,7 +20,7 @@ well : (s : Stop) → s .wanted ≡ 0 → isGood s ≡ true
 well s good = eq-eqb (s .wanted) 0 good
 
 pub proved : Promises
-unfolding start listing waitingSlot fresh verdictAt
+unfolding start listing waitingSlot fresh verdictAt entriesAt withNotes
 proved =
     record {
       header-at = λ text at. refl;
@@ -45,4 +45,5 @@ proved =
       starts = λ h v good. rw (eq-eqb (v .number) accepted good);
       starts-none = λ h v bad. rw (ne-eqb (v .number) accepted bad);
       listed = λ text at. refl;
+      of-filling = λ text at s e es. record { no-entry = refl; more-entries = λ notes. refl; no-note = refl; more-notes = refl; counted = λ listed. refl };
     }

@@ -1,19 +1,21 @@
 -- What the sheet's steps promise, one by one. What they promise of whole texts is in the crate `sheet_promises`.
 use Prim.Native.Nat.{ℕ, suc, _+_, _%_, _<_, _≤_}
 use mathlib.Core.Path.{_≡_}
-use mathlib.Core.List.{List}
+use mathlib.Core.List.{List, [], _∷_}
 use mathlib.Core.Bool.{true, false}
 use lib.ListN.{length, replicate}
 use Rattle.refusal.specs.Table.{accepted, form, countOrNote, badLength, badLoop}
 use Rattle.rules.specs.Rules.{countRule, noteRule, goodLength, goodLoop}
 use Rattle.standard.specs.Standard.{IV}
-use Rattle.session.specs.Sessions.{slotIndex}
+use Rattle.slots.specs.Slots.{waitingSlot}
+use Rattle.session.specs.Sessions.{slotIndex, putSlot}
+use Rattle.session.specs.declared.Session.{Session}
 use Rattle.lines.specs.Lines.{noteLine, headerLine}
 use Rattle.lines.specs.declared.Field.{Field}
 use Rattle.lines.specs.declared.Entry.{Entry}
 use Rattle.lines.specs.declared.NoteLine.{NoteLine}
-use Rattle.sheet.specs.Judging.{headerAt, headerNumber, entryNumber, noteNumber, judgedNotes, judged}
-use Rattle.sheet.specs.Filling.{listing, start}
+use Rattle.sheet.specs.Judging.{headerAt, headerNumber, entryNumber, noteNumber, judgedNotes, judged, entriesAt, withNotes}
+use Rattle.sheet.specs.Filling.{listing, start, withListed}
 use Rattle.sheet.specs.declared.Verdict.{Verdict}
 
 -- line 1: form, then the count
@@ -58,6 +60,16 @@ pub record OfSheet (text : List ℕ) (at : ℕ) : Type 0 where
       headerNumber (headerAt text at) ≡ accepted
       → judged text at ≡ judgedNotes (headerAt text at .value) text (headerAt text at .stop .at) 2 0
 
+-- what lines put into a session, line by line: "each waiting, with its own line's record and a fresh state"; and the count that it carries
+pub record OfFilling (text : List ℕ) (at : ℕ) (s : Session) (e : Entry) (es : List Entry) : Type 0 where
+  pub no-entry : entriesAt 0 text at ≡ []
+  pub more-entries :
+      (notes : ℕ)
+      → entriesAt (suc notes) text at ≡ noteLine text at .entry ∷ entriesAt notes text (noteLine text at .stop .at)
+  pub no-note : withNotes s [] ≡ s
+  pub more-notes : withNotes s (e ∷ es) ≡ withNotes (putSlot s (e .note) (waitingSlot (e .sample))) es
+  pub counted : (listed : ℕ) → withListed s listed ≡ record { slots = s .slots; listed = listed; opened = s .opened }
+
 pub record Promises : Type 0 where
   -- "Line 1: `RANK`, `1`": the figure 1
   pub header-at : (text : List ℕ) (at : ℕ) → headerAt text at ≡ headerLine text at 0x31
@@ -85,3 +97,5 @@ pub record Promises : Type 0 where
         };
         next = noteLine text at .stop .at;
       }
+  -- what the lines of a session put into it
+  pub of-filling : (text : List ℕ) (at : ℕ) (s : Session) (e : Entry) (es : List Entry) → OfFilling text at s e es

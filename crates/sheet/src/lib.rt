@@ -172,7 +172,7 @@ pub fn listing_at(text: &[u8], at: usize) -> Listing
 
 // The session that lists the notes of so many lines, from a place, and carries this count of them. The slots are filled before the session
 // is made of them: filled in it, they would be copied once more.
-fn filled(text: &[u8], at: usize, notes: u32, listed: u8) -> Session
+pub fn filled(text: &[u8], at: usize, notes: u32, listed: u8) -> Session
     ensures { λ r. ⌜ r ≡ withListed (withNotes emptySession (entriesAt notes (now (text .entry)) at)) listed ⌝ }
 {
     let none = slots::empty_slot();

@@ -1,0 +1,4 @@
+pub mod MacLines
+pub mod Endings
+pub mod Rows
+pub mod Proved

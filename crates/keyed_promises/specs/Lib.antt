@@ -1,0 +1,3 @@
+pub mod Grammar
+pub mod Answers
+pub mod Promises

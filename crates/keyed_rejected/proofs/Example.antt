@@ -1,0 +1,87 @@
+-- The example is a keyed sheet under its key, and not under the other. Assumes nothing.
+use Prim.Native.Nat.{ℕ, _+_, _≤_}
+use mathlib.Core.Path.{_≡_, refl, sym, ap, _∙_, subst}
+use mathlib.Core.List.{List, [], _∷_, _++_, append-nil}
+use native.Mathlib.Omega.{arith}
+use lib.ListN.{length, getD, drop}
+use Rattle.hex.specs.Digits.{within, digitOf}
+use Rattle.units.specs.Units.{longest}
+use Rattle.word.specs.BigEndian.{bigEndian}
+use Rattle.lines.specs.Fields.{digitAt, isDigitAt, pairAt, digestFrom, digestAt}
+use Rattle.printed.specs.Printed.{bytesOf}
+use Rattle.mac.specs.Hmac.{hmac}
+use Rattle.sheet_promises.specs.Grammar.{IsDigest}
+use Rattle.sheet_promises.specs.Promises.{Lists}
+use Rattle.sheet_promises.proofs.Digests.{digest-stands}
+use Rattle.sheet_promises.proofs.Proved.{proved as sheets}
+use Rattle.rejected.specs.Example.{text, notes}
+use Rattle.rejected.proofs.Proved.{proved as rejected}
+use Rattle.keyed_promises.specs.Grammar.{IsMacLine, EndsInMac, IsKeyedSheet}
+use Rattle.keyed_promises.proofs.Endings.{sheet-begins}
+use Rattle.keyed_rejected.specs.Example.{key, otherKey, code, codeByOther, codeOfNone, characters, macLine, keyedText}
+use Rattle.keyed_rejected.proofs.Computed.{computed}
+
+-- the 64 characters are the code's
+are-code : IsDigest characters code
+unfolding characters code bytesOf bigEndian digestAt digestFrom isDigitAt digitAt pairAt digitOf within
+are-code =
+    let s = digest-stands characters 0 refl in
+    let all : s .piece ≡ characters = sym (append-nil (s .piece)) ∙ sym (s .part .cut) in
+    subst (λ (t : List ℕ). IsDigest t code) all (s .is-digest)
+
+is-mac-line : IsMacLine macLine code
+unfolding macLine
+is-mac-line = record { characters = characters; are-code = are-code; whole = refl }
+
+pub is-keyed-sheet : IsKeyedSheet key keyedText notes
+unfolding keyedText
+is-keyed-sheet =
+    record {
+      bytes = text;
+      line = macLine;
+      is-sheet = rejected .is-sheet;
+      is-mac-line = subst (IsMacLine macLine) (sym (computed .example)) is-mac-line;
+      whole = refl;
+    }
+
+-- the codes differ in their first byte
+first : List ℕ → ℕ
+first bytes = getD bytes 0 0
+
+pub keys-differ : hmac key text ≡ hmac otherKey text → ⊥
+unfolding code codeByOther bytesOf bigEndian first
+keys-differ e =
+    let same : first code ≡ first codeByOther = ap first (sym (computed .example) ∙ e ∙ computed .by-other) in
+    omega arith
+
+pub messages-differ : hmac key text ≡ hmac key [] → ⊥
+unfolding code codeOfNone bytesOf bigEndian first
+messages-differ e =
+    let same : first code ≡ first codeOfNone = ap first (sym (computed .example) ∙ e ∙ computed .of-none) in
+    omega arith
+
+-- they are of no great length
+pub key-fits : length key ≤ longest
+unfolding key
+key-fits = omega arith
+
+pub other-fits : length otherKey ≤ longest
+unfolding otherKey
+other-fits = omega arith
+
+pub text-fits : 64 + length text ≤ longest
+text-fits = omega (arith, sheets .size text notes (rejected .is-sheet))
+
+-- with the other key the code is another
+pub ends : EndsInMac keyedText text code
+unfolding keyedText
+ends =
+    record {
+      line = macLine;
+      is-mac-line = is-mac-line;
+      line-begins = sheet-begins text notes (rejected .is-sheet);
+      whole = refl;
+    }
+
+pub other-code : code ≡ hmac otherKey text → ⊥
+other-code e = keys-differ (computed .example ∙ e)

@@ -1,0 +1,5 @@
+pub mod Hmac
+pub mod Codes
+pub mod Cutting
+pub mod Rows
+pub mod Promises
