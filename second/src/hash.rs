@@ -137,7 +137,8 @@ pub fn compare(message: &[u8], expected: &[u8]) -> Compared {
     compare_digest(&digest(message).digest, expected)
 }
 
-fn expected_number(length: u64) -> u8 {
+/// The number of an expected digest, or code, by its length.
+pub fn expected_number(length: u64) -> u8 {
     if length == 32 {
         ACCEPTED
     } else {
@@ -145,7 +146,8 @@ fn expected_number(length: u64) -> u8 {
     }
 }
 
-fn compare_digest(digest: &[u8; 32], expected: &[u8]) -> Compared {
+/// Compares a digest, or a code, with an expected one.
+pub fn compare_digest(digest: &[u8; 32], expected: &[u8]) -> Compared {
     Compared {
         number: ACCEPTED,
         same: digest[..] == *expected,

@@ -6,9 +6,12 @@
 //! The drivers `folders`, `calls` and `orders` hold the two against each other.
 
 pub mod calls;
+pub mod code;
+pub mod coding;
 pub mod examples;
 pub mod folders;
 pub mod hash;
+pub mod keyed;
 pub mod making;
 pub mod options;
 pub mod orders;

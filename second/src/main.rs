@@ -9,6 +9,7 @@ use std::path::Path;
 use std::process::ExitCode;
 
 const USE: &str = "use `second vectors DIR FILE...`, `second examples`, `second load DIR`, \
+     `second code KEYFILE FILE`, `second code-vectors`, \
      `second folders [--slip NAME] [--from INDEX] COUNT SEED PROGRAM [WORDS..]`, \
      `second calls [--slip NAME] [--without NAME,..] COUNT SEED PROGRAM [WORDS..]`, \
      `second orders [--slip NAME] COUNT SEED PROGRAM [WORDS..]`, \
@@ -26,6 +27,11 @@ fn main() -> ExitCode {
             print(run.printed.as_bytes(), run.good)
         }
         (Some("examples"), [_]) => print(second::examples::printed().as_bytes(), true),
+        (Some("code"), [_, key, file]) => match second::coding::of_files(key, file) {
+            Ok(printed) => print(printed.as_bytes(), true),
+            Err(message) => failed(&message),
+        },
+        (Some("code-vectors"), [_]) => print(second::coding::of_lengths().as_bytes(), true),
         (Some("answer-calls"), [_]) => answer_calls(),
         (Some("folders"), [_, rest @ ..]) => drive(rest, folders::run),
         (Some("calls"), [_, rest @ ..]) => drive(rest, calls::run),
@@ -43,8 +49,7 @@ fn main() -> ExitCode {
 fn print(bytes: &[u8], good: bool) -> ExitCode {
     let mut out = std::io::stdout();
     if let Err(error) = out.write_all(bytes).and_then(|()| out.flush()) {
-        eprintln!("second: cannot print: {error}");
-        return ExitCode::from(1);
+        return failed(&format!("cannot print: {error}"));
     }
     ExitCode::from(u8::from(!good))
 }
@@ -53,10 +58,7 @@ fn answer_calls() -> ExitCode {
     let out = std::io::BufWriter::new(std::io::stdout());
     match calls::answer::answer_lines(std::io::stdin().lock(), out) {
         Ok(()) => ExitCode::SUCCESS,
-        Err(error) => {
-            eprintln!("second: {error}");
-            ExitCode::from(1)
-        }
+        Err(error) => failed(&error.to_string()),
     }
 }
 
@@ -72,6 +74,11 @@ fn drive(arguments: &[OsString], driver: Driver) -> ExitCode {
         Ok(good) => ExitCode::from(u8::from(!good)),
         Err(message) => wrong(&message),
     }
+}
+
+fn failed(message: &str) -> ExitCode {
+    eprintln!("second: {message}");
+    ExitCode::from(1)
 }
 
 fn wrong(message: &str) -> ExitCode {

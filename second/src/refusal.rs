@@ -21,13 +21,15 @@ pub const DECIDED: u8 = 7;
 /// Taken and piece exceed the length.
 pub const PAST_LENGTH: u8 = 8;
 
-/// Hash state not in order.
+/// Hash state not in order, or code state: one of its hash states is not, or has
+/// another total than it may.
 pub const STATE_NOT_IN_ORDER: u8 = 9;
 
-/// Message total would pass 2^61 - 1.
+/// Message total would pass 2^61 - 1, a code's with its inner block counted; or
+/// a key does.
 pub const TOO_LONG: u8 = 10;
 
-/// Tail buffer shorter than needed, or expected digest not 32 bytes.
+/// Tail buffer shorter than needed, or expected digest or code not 32 bytes.
 pub const WRONG_SIZE: u8 = 11;
 
 /// Block number not below the block count.
@@ -44,3 +46,9 @@ pub const NONE_LISTED: u8 = 15;
 
 /// Buffer shorter than the sheet.
 pub const SHORT_BUFFER: u8 = 16;
+
+/// MAC line missing or ill formed.
+pub const NO_MAC_LINE: u8 = 17;
+
+/// The code in the MAC line is not the text's.
+pub const OTHER_CODE: u8 = 18;

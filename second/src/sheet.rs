@@ -135,7 +135,8 @@ pub fn hex_value(byte: u8) -> u8 {
     }
 }
 
-fn digest_bytes(field: &[u8]) -> Option<[u8; 32]> {
+/// The bytes that 64 hex characters stand for: of a digest, or of a code.
+pub fn digest_bytes(field: &[u8]) -> Option<[u8; 32]> {
     if field.len() != 64 || field.iter().any(|byte| hex_value(*byte) == 255) {
         return None;
     }

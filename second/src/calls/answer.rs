@@ -1,6 +1,7 @@
 //! The second implementation's answer to a call.
 
 use crate::calls::call::Call;
+use crate::calls::coded;
 use crate::calls::values::{bytes_text, session_text, state_text, Lent};
 use crate::hash::{self, Compared, Digested, State};
 use crate::padding::{self, End, Place, Which, Written};
@@ -44,6 +45,7 @@ pub fn answer(call: &Call) -> Option<String> {
         Call::Ask { session, note, .. } => Some(answer_text(&session.ask(*note))),
         Call::Ready { session } => Some(ready_text(session.ready())),
         Call::SheetWrite { session, buffer } => Some(sheet_write(session, buffer)),
+        Call::Coded(call) => coded::answer::answer(call),
         Call::Line { line } => answer_line(line),
     }
 }

@@ -1,6 +1,7 @@
 //! A call of the library, and the line that asks for it. A slice that is only
 //! read may be lent as a length alone.
 
+use crate::calls::coded::{self, CodeCall};
 use crate::calls::values::{self, Lent};
 use crate::hash::State;
 use crate::session::Session;
@@ -70,6 +71,8 @@ pub enum Call {
         session: Box<Session>,
         buffer: Vec<u8>,
     },
+    /// A call over codes or a keyed sheet.
+    Coded(CodeCall),
     /// A line as it stands, which may be no call at all.
     Line {
         line: Vec<u8>,
@@ -96,6 +99,7 @@ impl Call {
             Call::Ask { in_place, .. } => either(*in_place, "ask_in_place", "ask"),
             Call::Ready { .. } => "ready",
             Call::SheetWrite { .. } => "sheet_write",
+            Call::Coded(call) => call.name(),
             Call::Line { .. } => "line",
         }
     }
@@ -136,6 +140,7 @@ impl Call {
             Call::SheetWrite { session, buffer } => {
                 vec![session_text(session), bytes_text(buffer)]
             }
+            Call::Coded(call) => call.arguments(),
             Call::Line { .. } => vec![],
         }
     }
@@ -160,10 +165,11 @@ impl Call {
         hash_call(name, arguments)
             .or_else(|| padding_call(name, arguments))
             .or_else(|| session_call(name, arguments))
+            .or_else(|| coded::parse(name, arguments))
     }
 }
 
-fn either(yes: bool, one: &'static str, other: &'static str) -> &'static str {
+pub fn either(yes: bool, one: &'static str, other: &'static str) -> &'static str {
     if yes {
         one
     } else {

@@ -1,6 +1,7 @@
 //! The kinds of calls, and which call comes at an index.
 
 use crate::calls::call::Call;
+use crate::calls::coded::{states as codes, texts};
 use crate::calls::{lights, lines, paddings, sessions, states, writings};
 use crate::making::random::Random;
 use crate::making::turns::{turn, Weighted};
@@ -42,7 +43,7 @@ impl Weighted for Kind {
     }
 }
 
-const KINDS: [Kind; 37] = [
+const KINDS: [Kind; 54] = [
     kind("fresh", "fresh", 1, states::fresh),
     kind("fold", "fold", 4, states::fold),
     kind("update", "update", 12, states::update),
@@ -56,15 +57,24 @@ const KINDS: [Kind; 37] = [
     kind("block_part", "block", 12, paddings::block),
     kind("remove_number", "remove", 10, paddings::remove),
     kind("remove_part", "remove", 10, paddings::remove),
-    kind("sheet_read", "sheet", 14, sessions::sheet_read),
-    kind("sheet_read_in_place", "sheet", 14, sessions::sheet_read),
-    kind("deliver", "deliver", 24, sessions::deliver),
-    kind("deliver_in_place", "deliver", 24, sessions::deliver),
+    kind("sheet_read", "sheet", 16, sessions::sheet_read),
+    kind("sheet_read_in_place", "sheet", 16, sessions::sheet_read),
+    kind("deliver", "deliver", 29, sessions::deliver),
+    kind("deliver_in_place", "deliver", 29, sessions::deliver),
     kind("ask", "ask", 14, sessions::ask),
     kind("ask_in_place", "ask", 14, sessions::ask),
     kind("ready", "ready", 6, lights::ready),
     kind("sheet_write", "write", 15, writings::sheet_write),
-    kind("line", "line", 8, lines::line),
+    kind("code_start", "code_start", 3, codes::start),
+    kind("code_update", "code_update", 6, codes::update),
+    kind("code_update_in_place", "code_update", 6, codes::update),
+    kind("code_finish", "code_finish", 5, codes::finish),
+    kind("code_of", "code_of", 4, codes::code_of),
+    kind("compare_code", "compare_code", 5, codes::compare_state),
+    kind("compare_code_of", "compare_code", 5, codes::compare_of),
+    kind("keyed_read", "keyed", 10, texts::keyed_read),
+    kind("keyed_read_in_place", "keyed", 10, texts::keyed_read),
+    kind("line", "line", 13, lines::line),
     kind("fold@", "fold@", 1, states::fold_absent),
     kind("update@", "update@", 1, states::update_absent),
     kind("update_in_place@", "update@", 1, states::update_absent),
@@ -95,6 +105,34 @@ const KINDS: [Kind; 37] = [
     ),
     kind("deliver@", "deliver@", 1, sessions::deliver_absent),
     kind("deliver_in_place@", "deliver@", 1, sessions::deliver_absent),
+    kind("code_start@", "code_start@", 1, codes::start_absent),
+    kind("code_update@", "code_update@", 1, codes::update_absent),
+    kind(
+        "code_update_in_place@",
+        "code_update@",
+        1,
+        codes::update_absent,
+    ),
+    kind("code_of@", "code_of@", 1, codes::code_of_absent),
+    kind(
+        "compare_code@",
+        "compare_code@",
+        1,
+        codes::compare_state_absent,
+    ),
+    kind(
+        "compare_code_of@",
+        "compare_code@",
+        1,
+        codes::compare_of_absent,
+    ),
+    kind("keyed_read@", "keyed@", 1, texts::keyed_read_absent),
+    kind(
+        "keyed_read_in_place@",
+        "keyed@",
+        1,
+        texts::keyed_read_absent,
+    ),
 ];
 
 const fn kind(

@@ -9,8 +9,29 @@ use crate::making::random::Random;
 use crate::session::Slot;
 use std::ops::Range;
 
+/// 32 bytes that are zero.
+macro_rules! zeros {
+    () => {
+        "0000000000000000000000000000000000000000000000000000000000000000"
+    };
+}
+
+/// A hash state that has taken so many bytes.
+macro_rules! state {
+    ($total:literal) => {
+        concat!(zeros!(), ":", $total, ":", zeros!(), zeros!())
+    };
+}
+
+/// The line that ends a code state that is written so.
+macro_rules! code_finish {
+    ($($part:expr),+) => {
+        concat!("code_finish\t", $($part),+).as_bytes()
+    };
+}
+
 /// Lines that are no call, each for a reason of its own.
-pub const NO_CALLS: [&[u8]; 97] = [
+pub const NO_CALLS: [&[u8]; 138] = [
     b"",
     b"\t",
     b"?",
@@ -108,10 +129,51 @@ pub const NO_CALLS: [&[u8]; 97] = [
     b"ready\t0:0\t5",
     b"ready\t@0",
     b"ready\t0:0\r",
+    b"code_start",
+    b"code_start\t",
+    b"code_start\t0",
+    b"code_start\t0A",
+    b"code_start\t@",
+    b"code_start\t-\t-",
+    b"Code_start\t-",
+    b"code-start\t-",
+    b"code_of\t-",
+    b"code_of\t-\t",
+    b"code_of\t-\t-\t-",
+    b"code_finish\t-",
+    b"code_finish\t@0",
+    b"code_finish\t+",
+    code_finish!(state!("64")),
+    code_finish!(state!("64"), "+"),
+    code_finish!("+", state!("64")),
+    code_finish!(state!("64"), "+-"),
+    code_finish!("-+", state!("64")),
+    code_finish!(state!("64"), "++", state!("64")),
+    code_finish!(state!("64"), "+", state!("64"), "+"),
+    code_finish!(state!("64"), "+", state!("64"), "+", state!("64")),
+    code_finish!(state!("64"), state!("64")),
+    code_finish!(state!("64"), ":", state!("64")),
+    code_finish!(state!("64"), ",", state!("64")),
+    code_finish!(state!("64"), "-", state!("64")),
+    code_finish!(state!("64"), "\t", state!("64")),
+    code_finish!(state!("64"), " + ", state!("64")),
+    code_finish!(state!("064"), "+", state!("64")),
+    code_finish!(state!("64"), "+", state!("+64")),
+    code_finish!(state!("64"), "+", state!("18446744073709551616")),
+    b"code_update\t-\t-",
+    b"compare_code\t-\t-",
+    b"compare_code_of\t-\t-",
+    b"compare_code_of\t-\t-\t-\t-",
+    b"keyed_read\t-",
+    b"keyed_read\t0:0\t-\t-",
+    b"keyed_read_in_place\t-\t-",
+    b"keyed_read_in_place\t-\t-\t-",
+    b"keyed_read_in_place\t0:0\t-",
+    b"keyed_write\t-\t0:0\t-",
 ];
 
 /// Lines that are a call though they look strange, and what they are answered.
-pub const CALLS: [(&[u8], &str); 14] = [
+pub const CALLS: [(&[u8], &str); 25] = [
     (b"ask\t0:0\t0", "5\t0\t0"),
     (b"ask_in_place\t255:0\t18446744073709551615", "5\t0\t0"),
     (b"remove_number\t-", "14"),
@@ -126,6 +188,32 @@ pub const CALLS: [(&[u8], &str); 14] = [
     (b"pad_write\t@18446744073709551615\t-", "10\t0\t-"),
     (b"block_part\t-\t@63\t0", "0\t0\t0\t-"),
     (b"sheet_write\t1:1\t-", "15\t0\t-"),
+    (
+        b"code_of\t@2305843009213693952\t@5",
+        concat!("10\t", zeros!()),
+    ),
+    (
+        b"code_of\t-\t@2305843009213693888",
+        concat!("10\t", zeros!()),
+    ),
+    (
+        code_finish!(state!("0"), "+", state!("18446744073709551615")),
+        concat!("9\t", zeros!()),
+    ),
+    (
+        code_finish!(state!("64"), "+", state!("63")),
+        concat!("9\t", zeros!()),
+    ),
+    (b"compare_code_of\t-\t-\t@31", "11\t0"),
+    (b"compare_code_of\t@0\t@0\t@0", "11\t0"),
+    (b"keyed_read\t-\t-", "17\t0\t0:0"),
+    (b"keyed_read\t@0\t@68", "17\t0\t0:0"),
+    (b"keyed_read\t@2305843009213693952\t@69", "10\t0\t0:0"),
+    (b"keyed_read_in_place\t200:200\t-\t-", "17\t0\t0:0"),
+    (
+        b"keyed_read_in_place\t1:0\t@18446744073709551615\t@0",
+        "10\t0\t0:0",
+    ),
 ];
 
 /// By turns one of the lines above, a long one, or one that is made out of a
@@ -166,7 +254,12 @@ fn long(turn: usize) -> Vec<u8> {
         ]
         .concat()
     };
-    match turn % 8 {
+    let three = |count: usize| {
+        let most = bytes(MOST_BYTES);
+        let last = bytes(count);
+        [b"compare_code_of", &most[..], &most, &last].join(&b'\t')
+    };
+    match turn % 11 {
         0 => [b"digest\t", &bytes(MOST_BYTES)[..]].concat(),
         1 => [b"digest\t", &bytes(MOST_BYTES + 1)[..]].concat(),
         2 => two("18446744073709551615"),
@@ -174,6 +267,9 @@ fn long(turn: usize) -> Vec<u8> {
         4 => [b"digest\t", &bytes(279_996)[..]].concat(),
         5 => [b"digest\t", &bytes(279_997)[..]].concat(),
         6 => [b"fresh\t", &vec![b'\t'; 600_000][..]].concat(),
+        7 => three(MOST_BYTES),
+        8 => [&three(MOST_BYTES)[..], b"a"].concat(),
+        9 => three(MOST_BYTES + 1),
         _ => [b"fresh", &vec![0; 300_000][..]].concat(),
     }
 }
@@ -181,7 +277,7 @@ fn long(turn: usize) -> Vec<u8> {
 type Spoil = fn(&mut Random, &mut Vec<u8>);
 
 /// Every way to spoil the line of any call.
-const SPOILS: [Spoil; 28] = [
+const SPOILS: [Spoil; 30] = [
     |_, line| line.insert(0, b'\t'),
     |_, line| line.push(b'\t'),
     |_, line| line.push(b'\r'),
@@ -208,6 +304,8 @@ const SPOILS: [Spoil; 28] = [
     slots,
     slots,
     counts,
+    halves,
+    halves,
     |random, line| capital(random, line),
     any_byte,
 ];
@@ -294,6 +392,27 @@ fn counts(random: &mut Random, line: &mut Vec<u8>) {
         b"257:1", b"1:-1", b"+1:1", b"1:1:", b"1.0",
     ];
     put(line, from..from + end, random.pick(&others));
+}
+
+/// A code state's halves exchanged, one of them missing or twice, or something
+/// else between them. What is no code state is treated as one.
+fn halves(random: &mut Random, line: &mut Vec<u8>) {
+    let place = pieces(line, b"\t").get(1).cloned().unwrap_or_default();
+    let field = line[place.clone()].to_vec();
+    let halves: Vec<&[u8]> = field.splitn(2, |byte| *byte == b'+').collect();
+    let (inner, outer) = (halves[0], halves[halves.len() - 1]);
+    let between: [&[u8]; 10] = [
+        b"", b"-", b":", b",", b" ", b"++", b"+ ", b" +", b"\t", b"+-",
+    ];
+    let with = match random.below(6) {
+        0 => [outer, b"+", inner].concat(),
+        1 => inner.to_vec(),
+        2 => [inner, b"+"].concat(),
+        3 => [b"+", outer].concat(),
+        4 => [inner, b"+", outer, b"+", outer].concat(),
+        _ => [inner, random.pick(&between), outer].concat(),
+    };
+    put(line, place, &with);
 }
 
 /// Every small letter from one place on is made a capital.

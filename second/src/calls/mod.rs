@@ -3,6 +3,7 @@
 
 pub mod answer;
 pub mod call;
+pub mod coded;
 pub mod deciding;
 pub mod kinds;
 pub mod lax;
@@ -207,6 +208,7 @@ pub fn answer_kind(call: &Call, ours: &str) -> String {
         (Call::Deliver { .. }, ["0", status, ..]) => format!("delivered-{status}"),
         (Call::Ready { .. }, [ready, ..]) => format!("ready-{ready}"),
         (Call::SheetWrite { .. }, [number, ..]) => format!("sheet-write-{number}"),
+        (Call::Coded(call), fields) => coded::answer_kind(call, fields),
         (_, [number, ..]) => format!("number-{number}"),
         (_, []) => unreachable!("a split gives one field at least"),
     }

@@ -27,7 +27,7 @@ pub fn sheet_read_absent(wish: &mut Wish) -> Call {
 }
 
 /// What a sheet is read over, where it is read in place.
-fn before(wish: &mut Wish) -> Option<Box<Session>> {
+pub fn before(wish: &mut Wish) -> Option<Box<Session>> {
     let wanted = wish.in_place();
     wanted.then(|| Box::new(any(&mut wish.random, wish.ordinal)))
 }

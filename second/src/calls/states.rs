@@ -160,7 +160,7 @@ pub fn compare_state_absent(wish: &mut Wish) -> Call {
 }
 
 /// An expected digest that has not 32 bytes.
-fn other_size(random: &mut Random) -> Lent {
+pub fn other_size(random: &mut Random) -> Lent {
     Lent::Absent(random.pick(&[0, 1, 31, 33, 64, 32 + (1 << 32), LONGEST_SLICE]))
 }
 
@@ -177,7 +177,7 @@ pub fn compare_state(wish: &mut Wish) -> Call {
 
 /// The right digest, one wrong by a bit (in each byte in turn), one of another
 /// length, or any 32 bytes.
-fn expected(wish: &mut Wish, right: [u8; 32]) -> Vec<u8> {
+pub fn expected(wish: &mut Wish, right: [u8; 32]) -> Vec<u8> {
     let random = &mut wish.random;
     let mut digest = right.to_vec();
     match wish.ordinal % 5 {
@@ -298,7 +298,7 @@ pub fn dirty(random: &mut Random, total: u64) -> State {
 
 /// Around what still fits, around a full block, or any up to 200; now and then
 /// some thousands.
-fn piece_length(random: &mut Random, state: &State) -> usize {
+pub fn piece_length(random: &mut Random, state: &State) -> usize {
     let kept = state.total % 64;
     let room = LONGEST.saturating_sub(state.total);
     let around = if room <= 300 {

@@ -1,6 +1,7 @@
 //! How values are written in a call and in its answers. Each is written in one
 //! way only: what reads otherwise is no value.
 
+use crate::code::CodeState;
 use crate::hash::State;
 use crate::session::{Record, Session, Slot, NOTES};
 
@@ -127,6 +128,19 @@ pub fn parse_state(text: &str) -> Option<State> {
         words,
         total: parse_number(total)?,
         tail: parse_array(tail)?,
+    })
+}
+
+/// The inner state, a plus, the outer state.
+pub fn code_state_text(state: &CodeState) -> String {
+    format!("{}+{}", state_text(&state.inner), state_text(&state.outer))
+}
+
+pub fn parse_code_state(text: &str) -> Option<CodeState> {
+    let (inner, outer) = text.split_once('+')?;
+    Some(CodeState {
+        inner: parse_state(inner)?,
+        outer: parse_state(outer)?,
     })
 }
 

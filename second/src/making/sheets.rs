@@ -266,7 +266,8 @@ fn random_count(ordinal: u64) -> u64 {
     }
 }
 
-fn damage(random: &mut Random, text: &mut Vec<u8>) {
+/// A byte changed, put in, left out or doubled.
+pub fn damage(random: &mut Random, text: &mut Vec<u8>) {
     // Half of the damage is in the first 60 bytes, where the numbers are.
     let bound = if random.one_in(2) { 60 } else { text.len() };
     let place = random.index(bound.min(text.len()).max(1));

@@ -3,6 +3,7 @@
 
 use second::calls::answer::answer;
 use second::calls::call::Call;
+use second::calls::coded::CodeCall;
 use second::calls::kinds::Calls;
 use second::calls::values::Lent;
 use std::collections::BTreeSet;
@@ -32,8 +33,26 @@ fn filled(call: &Call, byte: u8) -> Option<Call> {
         Call::SheetRead { text, .. } => fill(text, byte),
         Call::Fresh | Call::Finish { .. } | Call::Ask { .. } => false,
         Call::Ready { .. } | Call::SheetWrite { .. } | Call::Line { .. } => false,
+        Call::Coded(call) => fill_coded(call, byte),
     };
     done.then_some(call)
+}
+
+fn fill_coded(call: &mut CodeCall, byte: u8) -> bool {
+    let slices = match call {
+        CodeCall::Start { key } => vec![key],
+        CodeCall::Update { piece, .. } => vec![piece],
+        CodeCall::Finish { .. } => vec![],
+        CodeCall::Of { key, message } => vec![key, message],
+        CodeCall::CompareState { expected, .. } => vec![expected],
+        CodeCall::CompareOf {
+            key,
+            message,
+            expected,
+        } => vec![key, message, expected],
+        CodeCall::KeyedRead { key, text, .. } => vec![key, text],
+    };
+    slices.into_iter().all(|slice| fill(slice, byte))
 }
 
 #[test]
@@ -101,5 +120,59 @@ fn calls_that_need_a_byte_have_no_answer() {
         },
     ] {
         assert_eq!(answer(&call), None, "{}", call.name());
+    }
+}
+
+/// The longest message of all; a key may be as long.
+const LONGEST: u64 = (1 << 61) - 1;
+
+/// The calls of the table's rows that are just not decided.
+#[test]
+fn calls_over_code_states_that_need_a_byte_have_no_answer() {
+    let state = Box::new(second::code::start(b"").state);
+    for call in [
+        CodeCall::Start {
+            key: Lent::Absent(LONGEST),
+        },
+        CodeCall::Update {
+            in_place: false,
+            state: state.clone(),
+            piece: Lent::Absent(LONGEST - 64),
+        },
+        CodeCall::CompareState {
+            state,
+            expected: Lent::Absent(32),
+        },
+    ] {
+        assert_eq!(answer(&Call::Coded(call.clone())), None, "{call:?}");
+    }
+}
+
+#[test]
+fn calls_with_keys_that_need_a_byte_have_no_answer() {
+    let there = || Lent::Bytes(vec![7; 32]);
+    let of = |key, message| CodeCall::Of { key, message };
+    let compared = |key, message, expected| CodeCall::CompareOf {
+        key,
+        message,
+        expected,
+    };
+    let read = |key, text| CodeCall::KeyedRead {
+        before: None,
+        key,
+        text,
+    };
+    for call in [
+        of(Lent::Absent(1), there()),
+        of(Lent::Absent(LONGEST), Lent::Absent(LONGEST)),
+        of(there(), Lent::Absent(LONGEST - 64)),
+        compared(Lent::Absent(1), there(), Lent::Absent(31)),
+        compared(there(), Lent::Absent(LONGEST - 64), Lent::Absent(31)),
+        compared(there(), there(), Lent::Absent(32)),
+        read(Lent::Absent(1), there()),
+        read(Lent::Absent(LONGEST), Lent::Absent(68)),
+        read(there(), Lent::Absent(69)),
+    ] {
+        assert_eq!(answer(&Call::Coded(call.clone())), None, "{call:?}");
     }
 }

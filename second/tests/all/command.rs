@@ -65,6 +65,34 @@ fn the_small_examples_are_as_printed() {
 }
 
 #[test]
+fn the_code_of_a_file_is_printed_under_the_key_in_another() {
+    let folder = help::folder("command-code");
+    let path = |name: &str| folder.join(name).to_str().unwrap().to_string();
+    std::fs::write(folder.join("key"), b"\0key\n").unwrap();
+    std::fs::write(folder.join("file"), help::message(5000)).unwrap();
+    let output = call(&["code", &path("key"), &path("file")]);
+    let right = second::code::code_of(b"\0key\n", &help::message(5000)).code;
+    assert_eq!(said(&output), help::hex(&right) + "\n");
+    assert_eq!(output.status.code(), Some(0));
+    let missing = call(&["code", &path("key"), &path("nowhere")]);
+    assert!(missing.stdout.is_empty());
+    assert_eq!(missing.status.code(), Some(1));
+}
+
+#[test]
+fn code_vectors_are_lengths_and_codes() {
+    let output = call(&["code-vectors"]);
+    let lines: Vec<&str> = said(&output).lines().collect();
+    assert_eq!(lines.len(), 7 * 11);
+    let key: Vec<u8> = (0..65).map(|i| (7 * i + 65) as u8).collect();
+    let message: Vec<u8> = (0..200).map(|i| (13 * i + 200) as u8).collect();
+    let right = help::hex(&second::code::code_of(&key, &message).code);
+    assert!(lines.contains(&format!("65 200 {right}").as_str()));
+    assert!(lines[0].starts_with("0 0 ") && lines[76].starts_with("200 4096 "));
+    assert_eq!(output.status.code(), Some(0));
+}
+
+#[test]
 fn wrong_use_is_one_line_and_status_2() {
     for arguments in [
         &[][..],
@@ -75,6 +103,9 @@ fn wrong_use_is_one_line_and_status_2() {
         &["other", "a", "b"],
         &["examples", "a"],
         &["answer-calls", "a"],
+        &["code", "a"],
+        &["code", "a", "b", "c"],
+        &["code-vectors", "a"],
         &["folders"],
         &["folders", "10", "1"],
         &["folders", "0", "1", "true"],

@@ -53,7 +53,7 @@ fn every_slip_in_calls_is_found() {
     ];
     let output = drive(&folder, &arguments);
     let all = said(&output);
-    assert_eq!(all.matches(" found by call ").count(), 89, "{all}");
+    assert_eq!(all.matches(" found by call ").count(), 160, "{all}");
     assert!(!all.contains("not found"));
     assert_eq!(output.status.code(), Some(0));
 }
@@ -95,12 +95,12 @@ fn a_call_program_that_is_wrong_or_ends_is_seen() {
 fn the_call_that_ends_the_program_is_found() {
     let folder = help::folder("calls-end");
     let program = format!("sed '/^deliver\t.*@/,$d' | {SECOND} answer-calls");
-    let output = drive(&folder, &["calls", "528", "3", "sh", "-c", &program]);
+    let output = drive(&folder, &["calls", "690", "3", "sh", "-c", &program]);
     let all = said(&output);
     assert!(last_line(&output).ends_with("\tdiffer 2"), "{all}");
     assert_eq!(all.matches("(deliver@)\n").count(), 2, "{all}");
     let without = ["calls", "--without", "deliver@"];
-    let rest = ["528", "3", "sh", "-c", &program];
+    let rest = ["690", "3", "sh", "-c", &program];
     let output = drive(&folder, &[&without[..], &rest[..]].concat());
     assert!(last_line(&output).ends_with("\tdiffer 0"));
 }

@@ -148,7 +148,7 @@ fn no_call_needs_bytes_that_are_not_there_and_every_number_is_answered() {
             _ => drop(numbers.insert(number.unwrap())),
         }
     }
-    assert_eq!(numbers, (0..=16).collect());
+    assert_eq!(numbers, (0..=18).collect());
 }
 
 /// Each order has all deliveries, and each note's in its own order; most of
@@ -210,7 +210,9 @@ fn every_strange_line_is_made() {
         assert!(lines.contains(*line), "{}", line.escape_ascii());
     }
     let lengths: BTreeSet<usize> = lines.iter().map(Vec::len).collect();
-    for length in [140007, 140009, 280035, 280036, 559999, 560001, 600006] {
+    for length in [
+        140007, 140009, 280035, 280036, 420018, 420019, 420020, 559999, 560001, 600006,
+    ] {
         assert!(lengths.contains(&length), "{length}");
     }
 }

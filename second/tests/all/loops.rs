@@ -221,7 +221,7 @@ fn the_wrong_rules_differ_from_the_right_one_and_from_each_other() {
 fn judging_loops_by_the_right_rule_changes_no_answer() {
     let calls = Calls::new(6, &[]).unwrap();
     let mut tried = BTreeMap::new();
-    for index in 0..10000 {
+    for index in 0..13000 {
         let (kind, call) = calls.at(index);
         for judge in [in_sheet, in_slot, in_writing] {
             if let Some(same) = judge(&call, Record::loop_allowed) {

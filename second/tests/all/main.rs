@@ -1,6 +1,8 @@
 //! All tests, in one crate so that they share their helpers.
 
 mod absent;
+mod code;
+mod coded_calls;
 mod command;
 mod counts;
 mod cuttings;
@@ -10,6 +12,7 @@ mod generated;
 mod help;
 mod hostile_slots;
 mod hostile_states;
+mod keyed;
 mod loops;
 mod padding;
 mod program;

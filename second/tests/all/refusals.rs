@@ -1,7 +1,9 @@
 //! The refusal table, row by row: the number, what is returned, what is left.
 
 use crate::help;
+use second::code;
 use second::hash::{self, State};
+use second::keyed;
 use second::padding::{self, Place, Which, Written};
 use second::session::{Answer, Session};
 use second::sheet;
@@ -225,4 +227,42 @@ fn row_16_is_a_buffer_shorter_than_the_sheet() {
     for buffer_length in 0..82 {
         assert_eq!(refused_sheet(&session, buffer_length), 16);
     }
+}
+
+/// What is refused by the keyed reader before the sheet is read: the number, no
+/// line, no note.
+fn refused_keyed(key: &[u8], text: &[u8]) -> u8 {
+    let read = keyed::read(key, text);
+    assert_eq!(read.verdict.line, 0);
+    assert_eq!(read.session, Session::unlisted());
+    read.verdict.number
+}
+
+#[test]
+fn row_17_is_a_mac_line_missing_or_ill_formed() {
+    let sheet = help::sheet(&["RANK 1 1", "5 64 0 31 Z"]);
+    let zeros = help::zeros();
+    assert_eq!(refused_keyed(b"key", sheet.as_bytes()), 17);
+    for line in [
+        format!("MAC {zeros}\n"),
+        format!("MAC\t{zeros}"),
+        format!("mac\t{zeros}\n"),
+        format!("MAC\t{}\n", "A".repeat(64)),
+    ] {
+        assert_eq!(
+            refused_keyed(b"key", (sheet.clone() + &line).as_bytes()),
+            17
+        );
+    }
+}
+
+#[test]
+fn row_18_is_a_code_that_does_not_fit() {
+    let sheet = help::sheet(&["RANK 1 1", "5 64 0 31 Z"]);
+    let right = help::hex(&code::code_of(b"key", sheet.as_bytes()).code);
+    let text = format!("{sheet}MAC\t{right}\n");
+    assert_eq!(keyed::read(b"key", text.as_bytes()).verdict.number, 0);
+    assert_eq!(refused_keyed(b"kez", text.as_bytes()), 18);
+    let other = format!("{sheet}MAC\t{}\n", help::zeros());
+    assert_eq!(refused_keyed(b"key", other.as_bytes()), 18);
 }

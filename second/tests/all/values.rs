@@ -6,6 +6,7 @@ use second::calls::call::Call;
 use second::calls::kinds::Calls;
 use second::calls::lines;
 use second::calls::values::{self, Lent};
+use second::code::{self, CodeState};
 use second::hash::State;
 use second::session::{Record, Session, Slot};
 
@@ -73,6 +74,36 @@ fn states_are_words_total_and_tail() {
     assert_eq!(values::parse_state(&text), Some(state));
     for wrong in ["", "::", &FRESH[1..], &FRESH[..FRESH.len() - 2]] {
         assert_eq!(values::parse_state(wrong), None, "{wrong:?}");
+    }
+}
+
+#[test]
+fn code_states_are_two_states_with_a_plus_between() {
+    let fresh = CodeState {
+        inner: State::fresh(),
+        outer: State::fresh(),
+    };
+    let text = format!("{FRESH}+{FRESH}");
+    assert_eq!(values::code_state_text(&fresh), text);
+    assert_eq!(values::parse_code_state(&text), Some(fresh));
+    let mut state = code::start(b"key").state;
+    state.update(&help::message(100));
+    let text = values::code_state_text(&state);
+    assert!(text.contains(":164:") && text.contains(":64:"));
+    assert_eq!(values::parse_code_state(&text), Some(state));
+    for wrong in [
+        "",
+        "+",
+        FRESH,
+        &format!("{FRESH}+"),
+        &format!("+{FRESH}"),
+        &format!("{FRESH}{FRESH}"),
+        &format!("{FRESH}++{FRESH}"),
+        &format!("{FRESH} + {FRESH}"),
+        &format!("{FRESH}+{FRESH}+{FRESH}"),
+        &format!("{FRESH}+{}", FRESH.replace(":0:", ":+0:")),
+    ] {
+        assert_eq!(values::parse_code_state(wrong), None, "{wrong:?}");
     }
 }
 
