@@ -1,6 +1,11 @@
 /* Does one thing N times, so that the instructions of one can be counted as a difference. measure WHAT SIZE N:
  * plain, fold: N blocks folded by the plain C and by the proved library (SIZE is not looked at);
- * update: N pieces of SIZE bytes into a state, by value;
+ * update, update_in_place: N pieces of SIZE bytes into a state, by value and in place;
+ * digest: N digests of SIZE bytes, each in one call;
+ * code: N codes of SIZE bytes by a key of 32, each in one call;
+ * code_by_copy: the same of a started state, a copy for each: the copy, an update in place, the end;
+ * code_start: N times that state;
+ * code_update_in_place: N pieces of SIZE bytes into a code state;
  * deliver, deliver_by_value: N pieces of SIZE bytes to a waiting note, in place and by value;
  * ready: N times the rank-ready light of 32 notes that are listed and SIZE that are open;
  * sheet_read, sheet_write: N times the longest sheet of SIZE notes, read in place and written.
@@ -28,11 +33,68 @@ static uint32_t fold(const char *what, size_t n) {
     return v.a;
 }
 
-static uint32_t update(size_t size, size_t n) {
+static uint32_t update(bool in_place, size_t size, size_t n) {
     vs_hash h = vs_fresh();
     for (size_t i = 0; i < n; i++)
-        h = vs_update(h, bytes, size).state;
+        if (in_place)
+            vs_update_in_place(&h, bytes, size);
+        else
+            h = vs_update(h, bytes, size).state;
+    all_accepted = h.total == size * n;
     return h.words.a ^ (uint32_t)h.total;
+}
+
+static uint32_t digest(size_t size, size_t n) {
+    uint32_t seen = 0;
+    for (size_t i = 0; i < n; i++) {
+        vs_digest d = vs_digest_of(bytes, size);
+        all_accepted &= d.number == VS_ACCEPTED;
+        seen ^= d.bytes[0];
+    }
+    return seen;
+}
+
+enum { KEY = 32 }; /* a key's bytes, from the front of bytes */
+
+static uint32_t code(size_t size, size_t n) {
+    uint32_t seen = 0;
+    for (size_t i = 0; i < n; i++) {
+        vs_digest d = vs_code_of(bytes, KEY, bytes, size);
+        all_accepted &= d.number == VS_ACCEPTED;
+        seen ^= d.bytes[0];
+    }
+    return seen;
+}
+
+static uint32_t code_by_copy(size_t size, size_t n) {
+    vs_code started = vs_code_start(bytes, KEY).state;
+    vs_digest expected = vs_code_of(bytes, KEY, bytes, size), d = expected;
+    for (size_t i = 0; i < n; i++) {
+        vs_code copy = started;
+        all_accepted &= vs_code_update_in_place(&copy, bytes, size) == VS_ACCEPTED;
+        d = vs_code_finish(copy);
+        all_accepted &= d.number == VS_ACCEPTED;
+    }
+    all_accepted &= memcmp(d.bytes, expected.bytes, VS_DIGEST) == 0;
+    return d.bytes[0];
+}
+
+static uint32_t code_start(size_t n) {
+    uint32_t seen = 0;
+    for (size_t i = 0; i < n; i++) {
+        vs_code_updated u = vs_code_start(bytes, KEY);
+        all_accepted &= u.number == VS_ACCEPTED;
+        seen ^= u.state.inner.words.a;
+    }
+    return seen;
+}
+
+static uint32_t code_update_in_place(size_t size, size_t n) {
+    vs_code c = vs_code_start(bytes, KEY).state;
+    for (size_t i = 0; i < n; i++)
+        vs_code_update_in_place(&c, bytes, size);
+    all_accepted = c.inner.total == VS_BLOCK + size * n;
+    return c.inner.words.a ^ (uint32_t)c.inner.total;
 }
 
 static uint32_t deliver(bool in_place, size_t size, size_t n) {
@@ -75,26 +137,36 @@ static uint32_t sheets(bool to_write, size_t notes, size_t n) {
     return (uint32_t)sheet.count ^ session.slots[0].sample.length;
 }
 
+static bool is(const char *what, const char *name) { return strcmp(what, name) == 0; }
+
+static uint32_t done(const char *what, size_t size, size_t n) {
+    if (is(what, "update") || is(what, "update_in_place"))
+        return update(is(what, "update_in_place"), size, n);
+    if (is(what, "digest"))
+        return digest(size, n);
+    if (is(what, "code"))
+        return code(size, n);
+    if (is(what, "code_by_copy"))
+        return code_by_copy(size, n);
+    if (is(what, "code_start"))
+        return code_start(n);
+    if (is(what, "code_update_in_place"))
+        return code_update_in_place(size, n);
+    if (is(what, "deliver") || is(what, "deliver_by_value"))
+        return deliver(is(what, "deliver"), size, n);
+    if (is(what, "ready"))
+        return ready(size, n);
+    if (is(what, "sheet_read") || is(what, "sheet_write"))
+        return sheets(is(what, "sheet_write"), size, n);
+    return fold(what, n);
+}
+
 int main(int argc, char **argv) {
     if (argc != 4)
         return 2;
     size_t size = strtoull(argv[2], 0, 10), n = strtoull(argv[3], 0, 10);
     fill();
-    uint32_t seen;
-    if (strcmp(argv[1], "update") == 0)
-        seen = update(size, n);
-    else if (strcmp(argv[1], "deliver") == 0)
-        seen = deliver(true, size, n);
-    else if (strcmp(argv[1], "deliver_by_value") == 0)
-        seen = deliver(false, size, n);
-    else if (strcmp(argv[1], "ready") == 0)
-        seen = ready(size, n);
-    else if (strcmp(argv[1], "sheet_read") == 0)
-        seen = sheets(false, size, n);
-    else if (strcmp(argv[1], "sheet_write") == 0)
-        seen = sheets(true, size, n);
-    else
-        seen = fold(argv[1], n);
+    uint32_t seen = done(argv[1], size, n);
     char line[] = "00000000\n";
     for (int i = 0; i < 8; i++)
         line[i] = "0123456789abcdef"[seen >> (28 - 4 * i) & 15];

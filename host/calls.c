@@ -5,7 +5,7 @@
 
 enum {
     MOST_BYTES = 70000,
-    LONGEST_CALL = 2 * 2 * MOST_BYTES + 64, /* no call has more than two slices, and what stands beside two is shorter than 64 */
+    LONGEST_CALL = 3 * 2 * MOST_BYTES + 64, /* no call has more than three slices; a name beside three, or a session beside two, is shorter */
     MOST_FIELDS = 5                         /* a name, at most three arguments, and one that is too many */
 };
 
@@ -22,14 +22,16 @@ typedef struct {
 
 static struct {
     vs_hash state;
+    vs_code code;
     vs_session session;
     uint64_t number;
-    slice slices[2];
+    slice slices[3];
     int slice_count;
 } given;
 
 #define FIRST given.slices[0].at, given.slices[0].length
 #define SECOND given.slices[1].at, given.slices[1].length
+#define THIRD given.slices[2].at, given.slices[2].length
 
 /* ---- Reading values: each takes its value from the front of the text, and says whether it is there ---- */
 
@@ -88,6 +90,9 @@ static bool take_state(const char **text, vs_hash *h) {
                           word_at(w + 16), word_at(w + 20), word_at(w + 24), word_at(w + 28)};
     return take_hex(text, h->tail, VS_BLOCK);
 }
+
+/* INNER+OUTER, each a hash state */
+static bool take_code(const char **text, vs_code *c) { return take_state(text, &c->inner) && take(text, '+') && take_state(text, &c->outer); }
 
 /* LENGTH:LOOP_START:LOOP_END:DIGEST */
 static bool take_record(const char **text, vs_record *r) {
@@ -167,6 +172,12 @@ static void put_state(const vs_hash *h) {
     put_hex(h->tail, VS_BLOCK);
 }
 
+static void put_code(const vs_code *c) {
+    put_state(&c->inner);
+    fputc('+', stdout);
+    put_state(&c->outer);
+}
+
 static void put_slot(const vs_slot *s) {
     printf("%u:%u:%u:", s->sample.length, s->sample.loop_start, s->sample.loop_end);
     put_hex(s->sample.digest, VS_DIGEST);
@@ -188,6 +199,11 @@ static void put_session(const vs_session *s) {
 static void put_digest(vs_digest d) {
     printf("%u\t", d.number);
     put_hex(d.bytes, VS_DIGEST);
+}
+
+static void put_code_updated(vs_code_updated u) {
+    printf("%u\t", u.number);
+    put_code(&u.state);
 }
 
 static void put_compared(vs_compared c) { printf("%u\t%u", c.number, c.same); }
@@ -236,6 +252,23 @@ static void digest(void) { put_digest(vs_digest_of(FIRST)); }
 static void compare_message(void) { put_compared(vs_compare_message(FIRST, SECOND)); }
 
 static void compare_state(void) { put_compared(vs_compare_state(given.state, FIRST)); }
+
+static void code_start(void) { put_code_updated(vs_code_start(FIRST)); }
+
+static void code_update(void) { put_code_updated(vs_code_update(given.code, FIRST)); }
+
+static void code_update_in_place(void) {
+    printf("%u\t", vs_code_update_in_place(&given.code, FIRST));
+    put_code(&given.code);
+}
+
+static void code_finish(void) { put_digest(vs_code_finish(given.code)); }
+
+static void code_of(void) { put_digest(vs_code_of(FIRST, SECOND)); }
+
+static void compare_code(void) { put_compared(vs_compare_code(given.code, FIRST)); }
+
+static void compare_code_of(void) { put_compared(vs_compare_code_of(FIRST, SECOND, THIRD)); }
 
 static void pad_write(void) {
     slice *buffer = &given.slices[1];
@@ -288,8 +321,18 @@ static void sheet_write(void) {
     put_written(vs_sheet_write(&given.session, buffer->bytes, buffer->length), buffer);
 }
 
-/* Each call with its arguments in order, a letter for each: h a hash state, s a session, n a number, l a slice that is only read (`@N` too), w a
- * slice that is written. */
+static void keyed_read(void) {
+    vs_sheet s = vs_keyed_read(FIRST, SECOND);
+    put_verdict(s.verdict, &s.session);
+}
+
+static void keyed_read_in_place(void) {
+    vs_verdict v = vs_keyed_read_in_place(&given.session, FIRST, SECOND);
+    put_verdict(v, &given.session);
+}
+
+/* Each call with its arguments in order, a letter for each: h a hash state, c a code state, s a session, n a number, l a slice that is only read
+ * (`@N` too), w a slice that is written. */
 static const struct {
     const char *name, *arguments;
     void (*make)(void);
@@ -302,6 +345,13 @@ static const struct {
     {"digest", "l", digest},
     {"compare_message", "ll", compare_message},
     {"compare_state", "hl", compare_state},
+    {"code_start", "l", code_start},
+    {"code_update", "cl", code_update},
+    {"code_update_in_place", "cl", code_update_in_place},
+    {"code_finish", "c", code_finish},
+    {"code_of", "ll", code_of},
+    {"compare_code", "cl", compare_code},
+    {"compare_code_of", "lll", compare_code_of},
     {"pad_write", "lw", pad_write},
     {"block_number", "lln", block_number},
     {"block_part", "lln", block_part},
@@ -315,6 +365,8 @@ static const struct {
     {"ask_in_place", "sn", ask_in_place},
     {"ready", "s", ready},
     {"sheet_write", "sw", sheet_write},
+    {"keyed_read", "ll", keyed_read},
+    {"keyed_read_in_place", "sll", keyed_read_in_place},
 };
 
 /* ---- Lines ---- */
@@ -323,6 +375,8 @@ static bool take_argument(char letter, const char **text) {
     switch (letter) {
     case 'h':
         return take_state(text, &given.state);
+    case 'c':
+        return take_code(text, &given.code);
     case 's':
         return take_session(text, &given.session);
     case 'n':

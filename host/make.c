@@ -1,14 +1,17 @@
-/* Makes the sheet of a recorded rank: make FOLDER NOTE:START:END .. (./sheet builds it and runs it).
+/* Makes the sheet of a recorded rank: make [--key FILE] FOLDER NOTE:START:END .. (./sheet builds it and runs it).
  *
  * Each word names a note and its loop; length and digest are those of the note's file in the folder, NN.raw. They are put into a session,
  * and the sheet that the library writes of it is printed. The library judges the loops as well, so a sheet that is printed is one that it
  * reads. All is good or nothing is printed: what is wrong goes to standard error, a line for each word or note that it is wrong with, and
- * the exit status is 1. A sample that is there and in no word is told too, behind a sheet that is printed. */
+ * the exit status is 1. A sample that is there and in no word is told too, behind a sheet that is printed.
+ *
+ * With --key it makes a keyed sheet: the same, and the MAC line with its code by the key that the file holds. */
+#include "key_file.h"
 #include "plain_c.h"
 #include "veenstipper.h"
 
 enum { PIECE = 4096 };
-_Static_assert(PIECE >= VS_LONGEST_SHEET, "a piece's place takes a sheet as well");
+_Static_assert(PIECE >= VS_LONGEST_KEYED_SHEET, "a piece's place takes a sheet as well, a keyed one too");
 
 static const long longest_sample = 4294967294;
 
@@ -122,10 +125,30 @@ static bool fill_notes(void) {
     return good;
 }
 
-static bool print_sheet(void) {
+/* Puts the MAC line behind a sheet, to which it adds its own bytes: the code is that of all bytes before it. */
+static bool add_mac_line(vs_written *sheet) {
+    static const char digits[] = "0123456789abcdef";
+    uint8_t *line = piece + sheet->count;
+    vs_digest code = vs_code_of(key, key_length, piece, sheet->count);
+    forget_key();
+    if (code.number != VS_ACCEPTED)
+        return WRONG("its code is refused with number %u\n", code.number);
+    memcpy(line, "MAC\t", 4);
+    for (int i = 0; i < VS_DIGEST; i++) {
+        line[4 + 2 * i] = (uint8_t)digits[code.bytes[i] >> 4];
+        line[5 + 2 * i] = (uint8_t)digits[code.bytes[i] & 15];
+    }
+    line[VS_MAC_LINE - 1] = '\n';
+    sheet->count += VS_MAC_LINE;
+    return true;
+}
+
+static bool print_sheet(bool keyed) {
     vs_written sheet = vs_sheet_write(&session, piece, VS_LONGEST_SHEET);
     if (sheet.number != VS_ACCEPTED)
         return WRONG("it is refused with number %u\n", sheet.number);
+    if (keyed && !add_mac_line(&sheet))
+        return false;
     if (fwrite(piece, 1, sheet.count, stdout) != sheet.count || fclose(stdout) != 0)
         return WRONG("it could not be written to standard output\n");
     return true;
@@ -141,17 +164,29 @@ static void tell_left_out(void) {
     }
 }
 
-static bool make_sheet(int argc, char **argv) {
-    if (argc < 3)
-        return WRONG("a folder, and a loop for each note, its first and last frame: FOLDER NOTE:START:END ..\n");
-    if (!list_notes(argv + 2))
+/* The words: FOLDER NOTE:START:END .. */
+static bool make_sheet(char **words, bool keyed) {
+    if (!list_notes(words + 1))
         return false;
-    if (chdir(argv[1]) != 0)
-        return WRONG("there is no folder '%s'\n", argv[1]);
-    if (!(fill_notes() && print_sheet()))
+    if (chdir(words[0]) != 0)
+        return WRONG("there is no folder '%s'\n", words[0]);
+    if (!(fill_notes() && print_sheet(keyed)))
         return false;
     tell_left_out();
     return true;
 }
 
-int main(int argc, char **argv) { return make_sheet(argc, argv) ? 0 : 1; }
+static bool made(int argc, char **argv) {
+    bool keyed = argc > 1 && strcmp(argv[1], "--key") == 0;
+    int folder = keyed ? 3 : 1; /* which word it is */
+    if (argc < folder + 2)
+        return WRONG("a folder, and a loop for each note, its first and last frame: [--key FILE] FOLDER NOTE:START:END ..\n");
+    const char *wrong = keyed ? read_key(argv[2]) : 0; /* before the folder is entered: the key's path is not meant from there */
+    if (wrong)
+        return WRONG("the key file '%s' %s\n", argv[2], wrong);
+    if (keyed)
+        tell_empty_key("sheet", argv[2]);
+    return make_sheet(argv + folder, keyed);
+}
+
+int main(int argc, char **argv) { return made(argc, argv) ? 0 : 1; }

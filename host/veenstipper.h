@@ -8,7 +8,7 @@
  * - A slice is a pointer and a number of bytes. The pointer is never null, not even of an empty slice.
  * - Every pointer is the host's and is lent for the call alone. Nothing lent may change during the call, by an interrupt, a DMA or another thread.
  * - What a function writes (a pointer without const) overlaps nothing else that is lent to that call; what is only read may overlap.
- * - A vs_hash * or vs_session * is aligned as its type (8 bytes). Slices need no alignment.
+ * - A vs_hash *, vs_code * or vs_session * is aligned as its type (8 bytes). Slices need no alignment.
  * - Calls on different states and sessions may run at once. A call writes a state or session that it is lent without const even when it
  *   refuses: it writes what was there.
  *
@@ -16,8 +16,8 @@
  * - Leaf functions use the red zone, the 128 bytes below the stack pointer: whatever interrupts a call must step over them before it writes to
  *   the same stack. An operating system does so. On bare metal the processor does not, for it pushes its frame right below the stack pointer:
  *   there an interrupt that may come during a call runs on a stack of its own (an IST entry), or is held off for the call.
- * - Memory: a session is 5,128 bytes, a hash state 104. docs/FRAMES.md has the stack that each call takes, the red zone included. On top of its
- *   totals come what the host's memcpy and memset take, and the return address of the call to them.
+ * - Memory: a session is 5,128 bytes, a hash state 104, a code state 208. docs/FRAMES.md has the stack that each call takes, the red zone
+ *   included. On top of its totals come what the host's memcpy and memset take, and the return address of the call to them.
  * - Nothing is claimed of how long a call takes, a comparison too: it looks at all 32 bytes whatever it finds, and no more is said.
  *
  * States and sessions are plain values: copy them and store them. Compare them field by field, since the padding between and behind fields is
@@ -26,6 +26,17 @@
  * loop_start <= loop_end < length / 2, and its state is in order with total below length (waiting) or the fresh one (open, shut). What is not in
  * order is refused (6, 9), never used. What is in order is believed, an open slot too: what a status says holds of sessions that only these
  * functions wrote. A slot is listed unless its status is VS_NONE, whatever else it holds; a status above VS_SHUT is listed, and not in order.
+ * A stored code state is in order when both its hash states are, the inner with a total of at least 64 and the outer with one of just 64. Nothing
+ * is asked of the words: one that was changed and is still in order is used as it stands, whether or not any key has such a state.
+ *
+ * A key is the host's, and is lent for the call alone: the library keeps none. But a code state is as secret as its key, from vs_code_start on:
+ * who has one, or any copy, makes the codes that who has the key makes. Clear both where they are not needed any more, stored ones too. The
+ * library clears nothing that it had on the stack, so what a call leaves below the stack pointer is as secret as what it was lent: a host that
+ * lets others read that memory clears it too, docs/FRAMES.md's total of the call and what memcpy took.
+ *
+ * What a code says: that who wrote these bytes had the key (as far as no one makes codes without it; of that nothing is proved). What it does
+ * not say: who of those that have the key it was, for a dealer that can check a sheet can write one; that the sheet is the newest, for an old
+ * one fits for ever; who recorded a sample, for an open note means an equal digest and no more. And it hides nothing: a keyed sheet is plain text.
  *
  * A session counts, beside its slots: listed, how many notes are listed, and open, how many of them are open. Reading a sheet sets both,
  * whatever was there: an accepted one of n notes to n and 0, a refused one to 0 and 0. A delivery that opens a note adds one to open, save that
@@ -73,11 +84,14 @@ extern "C" {
 #define VS_DECIDED 7
 /* Taken and the piece exceed the length. As they stood; nothing of the piece taken. */
 #define VS_PAST_LENGTH 8
-/* Hash state not in order. State same; digest all zero, comparison no. */
+/* Hash state not in order; of a code state: one of its two is not, the inner has under 64 bytes, or the outer has other than 64. State same; digest
+ * and code all zero, comparison no. */
 #define VS_STATE_NOT_IN_ORDER 9
-/* The message's total would pass 2^61 - 1. State and buffers same; digest all zero, comparison no, count 0, part empty. */
+/* The message's total would pass 2^61 - 1; of a code: the key has more bytes than that, or the message would pass it with the inner block of 64
+ * counted, so above 2^61 - 65. State and buffers same; digest and code all zero, comparison no, count 0, part empty. A code that is started: the
+ * empty key's state. A keyed sheet: line 0, and a session with no note listed and both counts 0. */
 #define VS_TOO_LONG 10
-/* Tail buffer shorter than needed, or expected digest not 32 bytes. Buffers same; count 0, part empty, comparison no. */
+/* Tail buffer shorter than needed, or expected digest or code not 32 bytes. Buffers same; count 0, part empty, comparison no. */
 #define VS_WRONG_SIZE 11
 /* Block number not below the block count. Empty part. */
 #define VS_NO_SUCH_BLOCK 12
@@ -88,6 +102,9 @@ extern "C" {
 /* Writing a sheet: no note listed; buffer shorter than the sheet. Buffer same; count 0. */
 #define VS_NONE_LISTED 15
 #define VS_SHORT_BUFFER 16
+/* A keyed sheet: the MAC line missing or ill formed; a code that does not fit. Left: line 0, and a session with no note listed and both counts 0. */
+#define VS_NO_MAC_LINE 17
+#define VS_OTHER_CODE 18
 
 /* ---- Statuses of a note ----------------------------------------------------------------------------------------------------------- */
 
@@ -100,6 +117,8 @@ extern "C" {
 #define VS_BLOCK 64
 #define VS_DIGEST 32
 #define VS_LONGEST_SHEET 3233 /* bytes: 32 notes, every number with all its digits */
+#define VS_MAC_LINE 69        /* bytes: MAC, a tab, 64 hex digits, LF */
+#define VS_LONGEST_KEYED_SHEET 3302
 
 /* ---- Values ----------------------------------------------------------------------------------------------------------------------- */
 
@@ -119,6 +138,7 @@ typedef struct {
     vs_hash state;
 } vs_updated;
 
+/* A digest, or a code. */
 typedef struct {
     uint8_t number;
     uint8_t bytes[VS_DIGEST];
@@ -128,6 +148,16 @@ typedef struct {
     uint8_t number;
     bool same;
 } vs_compared;
+
+/* A code state, as secret as its key: inner has taken the key's inner block and the message so far, outer the key's outer block alone. */
+typedef struct {
+    vs_hash inner, outer;
+} vs_code;
+
+typedef struct {
+    uint8_t number;
+    vs_code state;
+} vs_code_updated;
 
 typedef struct {
     uint8_t number;
@@ -173,7 +203,7 @@ typedef struct {
     vs_session session;
 } vs_delivered;
 
-/* What is said of a sheet: its number, and the line that decided (0 where it is accepted). */
+/* What is said of a sheet: its number, and the line that decided (0 where it is accepted, and where a keyed one is refused by 10, 17 or 18). */
 typedef struct {
     uint8_t number;
     uint32_t line;
@@ -198,6 +228,11 @@ VS_LAYOUT(sizeof(vs_hash) == 104);
 VS_LAYOUT(sizeof(vs_updated) == 112);
 VS_LAYOUT(sizeof(vs_digest) == 33);
 VS_LAYOUT(sizeof(vs_compared) == 2);
+VS_LAYOUT(offsetof(vs_code, outer) == 104);
+VS_LAYOUT(sizeof(vs_code) == 208);
+VS_LAYOUT(VS_ALIGNMENT(vs_code) == 8);
+VS_LAYOUT(offsetof(vs_code_updated, state) == 8);
+VS_LAYOUT(sizeof(vs_code_updated) == 216);
 VS_LAYOUT(sizeof(vs_written) == 16);
 VS_LAYOUT(sizeof(vs_place) == 24);
 VS_LAYOUT(sizeof(vs_record) == 44);
@@ -212,6 +247,7 @@ VS_LAYOUT(sizeof(vs_answer) == 16);
 VS_LAYOUT(sizeof(vs_delivered) == 5144);
 VS_LAYOUT(sizeof(vs_verdict) == 8);
 VS_LAYOUT(sizeof(vs_sheet) == 5136);
+VS_LAYOUT(VS_LONGEST_KEYED_SHEET == VS_LONGEST_SHEET + VS_MAC_LINE);
 
 /* ---- SM3 -------------------------------------------------------------------------------------------------------------------------- */
 
@@ -236,6 +272,36 @@ vs_digest vs_digest_of(const uint8_t *message, size_t message_length);
 /* Whether the digest is the expected one. The code looks at all 32 bytes whatever it finds. Refusals 10 (9 of a state), 11: no. */
 vs_compared vs_compare_message(const uint8_t *message, size_t message_length, const uint8_t *expected, size_t expected_length);
 vs_compared vs_compare_state(vs_hash state, const uint8_t *expected, size_t expected_length);
+
+/* ---- Codes: HMAC over SM3 ----------------------------------------------------------------------------------------------------------- */
+
+/* The code of a message by a key is HMAC as RFC 2104 defines it, with SM3 for its hash, blocks of 64 bytes and a code of 32. Keys are of every
+ * length, and an empty key is a key (which everyone has). A key of at most 64 bytes is filled up to a block with zeros, a longer one is
+ * hashed first: so a short key and the same with zeros behind it have the same codes, and a key over 64 bytes and its digest have. Keys of one
+ * length, 32 to 64 bytes, never meet so. */
+
+/* The state of a message of which nothing has come, by this key. Refusal 10: the state of the empty key, so go by the number. A copy of a started
+ * state serves the next message: the key's two blocks are folded here, and never again. */
+vs_code_updated vs_code_start(const uint8_t *key, size_t key_length);
+
+/* The state with a piece of the message more. Refusals 9, 10: the state as it was. The inner total counts the key's block, so 10 is given where it
+ * and the piece exceed 2^61 - 1. An empty piece changes nothing. */
+vs_code_updated vs_code_update(vs_code state, const uint8_t *piece, size_t piece_length);
+
+/* The same in place: answers the number; *state is the new state, or as it was where the number is a refusal. */
+uint8_t vs_code_update_in_place(vs_code *state, const uint8_t *piece, size_t piece_length);
+
+/* The code of all that the state has taken. Refusal 9: all zero. */
+vs_digest vs_code_finish(vs_code state);
+
+/* The code of a whole message. Refusal 10, of the key or of the message: all zero. */
+vs_digest vs_code_of(const uint8_t *key, size_t key_length, const uint8_t *message, size_t message_length);
+
+/* Whether the code is the expected one. The library looks at all 32 bytes whatever it finds. Refusals 9, 11 of a state; in one call 10 of the key,
+ * 10 of the message, 11: no. Compare codes by these, and not by memcmp, which may tell by its time how far a forged one fits. */
+vs_compared vs_compare_code(vs_code state, const uint8_t *expected, size_t expected_length);
+vs_compared vs_compare_code_of(const uint8_t *key, size_t key_length, const uint8_t *message, size_t message_length, const uint8_t *expected,
+                               size_t expected_length);
 
 /* ---- Padded blocks ---------------------------------------------------------------------------------------------------------------- */
 
@@ -284,6 +350,23 @@ vs_answer vs_ask_in_place(const vs_session *session, uint64_t note);
  * is listed: what a walk over the slots would find. It stays until a sheet is read again. After a refused sheet the answer is no. Of a stored
  * session of which anything was changed it may be yes while asking a note answers 6: a host that restores one asks each note once first. */
 bool vs_ready(const vs_session *session);
+
+/* ---- The keyed sheet ---------------------------------------------------------------------------------------------------------------- */
+
+/* A keyed sheet is a sheet and one more line, VS_MAC_LINE bytes: MAC, a tab, 64 hex digits 0-9 and a-f, LF. The digits are the code of all bytes
+ * before that line, by the key. To write one: vs_sheet_write, then the line, of vs_code_of the bytes written (host/make.c does so). vs_sheet_read
+ * refuses a keyed sheet of n notes, by 1 at line n + 2.
+ *
+ * The session of a keyed sheet. It is accepted exactly when the MAC line is well formed, the code fits, and the rest is a sheet that vs_sheet_read
+ * accepts; the session is then the one that this gives of the rest, and the line is 0. Refusals, in this order, and each with no note listed and both
+ * counts 0: 10, the key has above 2^61 - 1 bytes; 17, the text does not end with a MAC line that is all of it or stands behind an LF (a text that
+ * goes on behind its LF does not); 10, above 2^61 - 65 bytes before that line; 18, the code does not fit: all these with line 0; then 1 to 4 of the
+ * rest, with the line. So 1 to 4 are only said of bytes whose code fits. */
+vs_sheet vs_keyed_read(const uint8_t *key, size_t key_length, const uint8_t *text, size_t text_length);
+
+/* The same into a lent session, whatever it held: refused, it lists no note, and what was loaded is gone. A host that would keep its rank until the
+ * next one is accepted lends another session. */
+vs_verdict vs_keyed_read_in_place(vs_session *session, const uint8_t *key, size_t key_length, const uint8_t *text, size_t text_length);
 
 #ifdef __cplusplus
 }
