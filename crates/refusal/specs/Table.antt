@@ -59,7 +59,7 @@ otherTail = 13
 abbrev pub notPadded : ℕ
 notPadded = 14
 
--- The numbers of document 02. 15 and 16 are given; each of the others is once its request has landed.
+-- The numbers of document 02. 15 to 18 are given; each of the others is once its request has landed.
 -- 1/13: "no note listed"
 abbrev pub noneListed : ℕ
 noneListed = 15

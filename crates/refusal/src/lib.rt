@@ -34,7 +34,7 @@ pub const OTHER_TAIL: u8 = 13;
 
 pub const NOT_PADDED: u8 = 14;
 
-// From here on the numbers of document 02. 15 and 16 are given; each of the others is once its request has landed.
+// From here on the numbers of document 02. 15 to 18 are given; each of the others is once its request has landed.
 
 // 1/13, the sheet's writer: no note listed; a buffer shorter than the sheet.
 pub const NONE_LISTED: u8 = 15;
