@@ -32,7 +32,9 @@
  * A key is the host's, and is lent for the call alone: the library keeps none. But a code state is as secret as its key, from vs_code_start on:
  * who has one, or any copy, makes the codes that who has the key makes. Clear both where they are not needed any more, stored ones too. The
  * library clears nothing that it had on the stack, so what a call leaves below the stack pointer is as secret as what it was lent: a host that
- * lets others read that memory clears it too, docs/FRAMES.md's total of the call and what memcpy took.
+ * lets others read that memory clears it too, docs/FRAMES.md's total of the call and what memcpy took. And a state that is passed or returned by
+ * value lies in the caller's own frame as well, once or more: clear that too, or keep to vs_code_of and vs_compare_code_of. Clear through a pointer
+ * to volatile, for a compiler may leave out a memset that nothing reads after it.
  *
  * What a code says: that who wrote these bytes had the key (as far as no one makes codes without it; of that nothing is proved). What it does
  * not say: who of those that have the key it was, for a dealer that can check a sheet can write one; that the sheet is the newest, for an old
@@ -277,8 +279,8 @@ vs_compared vs_compare_state(vs_hash state, const uint8_t *expected, size_t expe
 
 /* The code of a message by a key is HMAC as RFC 2104 defines it, with SM3 for its hash, blocks of 64 bytes and a code of 32. Keys are of every
  * length, and an empty key is a key (which everyone has). A key of at most 64 bytes is filled up to a block with zeros, a longer one is
- * hashed first: so a short key and the same with zeros behind it have the same codes, and a key over 64 bytes and its digest have. Keys of one
- * length, 32 to 64 bytes, never meet so. */
+ * hashed first: so two keys of at most 64 bytes that differ only by zeros at the end have the same codes, and a key over 64 bytes and its digest
+ * have. Keys of one length up to 64 never meet so: take 32 random bytes. */
 
 /* The state of a message of which nothing has come, by this key. Refusal 10: the state of the empty key, so go by the number. A copy of a started
  * state serves the next message: the key's two blocks are folded here, and never again. */
@@ -328,8 +330,9 @@ vs_verdict vs_sheet_read_in_place(vs_session *session, const uint8_t *text, size
 
 /* Writes the sheet of the session's listed notes to the front of the buffer, whatever their status; count says how many bytes that are. Later
  * bytes of the buffer keep their content, and the session is only read. Read again, the sheet lists the same records, every note waiting; of a
- * session that was read from a sheet it is that sheet, byte for byte, whatever was delivered since. Refusals 6 (of any listed
- * slot), 15, 16, in this order: count 0, buffer untouched. A buffer of VS_LONGEST_SHEET bytes always does. */
+ * session that was read from a sheet it is that sheet, byte for byte, whatever was delivered since (of a keyed one without its MAC line: a session
+ * does not know of a key). Refusals 6 (of any listed slot), 15, 16, in this order: count 0, buffer untouched. A buffer of VS_LONGEST_SHEET bytes
+ * always does. */
 vs_written vs_sheet_write(const vs_session *session, uint8_t *buffer, size_t buffer_length);
 
 /* A piece of a note's bytes. Refusals 5, 6, 7, 8: the session as it was. A note is open (VS_OPEN) from the moment its last byte is in and
@@ -359,9 +362,12 @@ bool vs_ready(const vs_session *session);
  *
  * The session of a keyed sheet. It is accepted exactly when the MAC line is well formed, the code fits, and the rest is a sheet that vs_sheet_read
  * accepts; the session is then the one that this gives of the rest, and the line is 0. Refusals, in this order, and each with no note listed and both
- * counts 0: 10, the key has above 2^61 - 1 bytes; 17, the text does not end with a MAC line that is all of it or stands behind an LF (a text that
- * goes on behind its LF does not); 10, above 2^61 - 65 bytes before that line; 18, the code does not fit: all these with line 0; then 1 to 4 of the
- * rest, with the line. So 1 to 4 are only said of bytes whose code fits. */
+ * counts 0: 10, the key has above 2^61 - 1 bytes; 17, the last 69 bytes are no MAC line, or the bytes before them are not none and do not end with
+ * LF; 10, above 2^61 - 65 bytes before that line; 18, the code does not fit: all these with line 0; then 1 to 4 of the rest, with the line. So 1 to 4
+ * are only said of bytes whose code fits.
+ *
+ * A host that asks for a key never reads the same text without one, and does not try vs_sheet_read after 17: whoever cuts the MAC line off has a
+ * plain sheet. */
 vs_sheet vs_keyed_read(const uint8_t *key, size_t key_length, const uint8_t *text, size_t text_length);
 
 /* The same into a lent session, whatever it held: refused, it lists no note, and what was loaded is gone. A host that would keep its rank until the

@@ -59,7 +59,7 @@ pub data Answered (key text : List ℕ) : (verdict : Verdict) (session : Session
       → Refused bytes number line
       → Lists s []
       → Answered key text (record { number = number; line = line }) s
-  -- accepted: "the rest is an accepted sheet, whose session it then gives"
+  -- accepted: "the rest is an accepted sheet, whose session it then gives". (A sheet has at most 3,233 bytes, so no limit is asked.)
   is-read :
       {s : Session} (es : List Entry)
       → length key ≤ longest

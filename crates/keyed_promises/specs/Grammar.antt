@@ -7,7 +7,7 @@ use Rattle.lines.specs.declared.Entry.{Entry}
 use Rattle.mac.specs.Hmac.{hmac}
 use Rattle.sheet_promises.specs.Grammar.{IsDigest, IsSheet}
 
--- "one more line, `MAC`, tab, 64 hex characters", ended by LF as every line is; the characters are those of a digest
+-- "one more line, `MAC`, tab, 64 hex characters", ended by LF as every line is; the characters are those of a digest, by the rule of `hex`
 pub record IsMacLine (line code : List ℕ) : Type 0 where
   pub characters : List ℕ
   pub are-code : IsDigest characters code
@@ -25,7 +25,7 @@ pub record EndsInMac (text bytes code : List ℕ) : Type 0 where
   pub whole : text ≡ bytes ++ line
 
 -- "the MAC line is well formed, the code fits, and the rest is an accepted sheet": bytes that are a sheet, and a MAC line of their code
--- under the key, "covering all bytes before that line"
+-- under the key, "covering all bytes before that line". (A sheet ends with LF, so a line begins behind it.)
 pub record IsKeyedSheet (key text : List ℕ) (es : List Entry) : Type 0 where
   pub bytes : List ℕ
   pub line : List ℕ

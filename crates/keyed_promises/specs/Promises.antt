@@ -36,7 +36,8 @@ pub record Promises : Type 0 where
   pub covers-none : (text : List ℕ) (number : ℕ) → (number ≡ 0 → ⊥) → covered text number ≡ []
   pub passes : (v : Verdict) → keyedVerdict 0 v ≡ v
   pub passes-no-more : (number : ℕ) (v : Verdict) → (number ≡ 0 → ⊥) → keyedVerdict number v ≡ record { number = number; line = 0 }
-  -- "The keyed reader accepts exactly when the MAC line is well formed, the code fits, and the rest is an accepted sheet"
+  -- "The keyed reader accepts exactly when the MAC line is well formed, the code fits, and the rest is an accepted sheet"; and the key is
+  -- not refused
   pub accepts : AcceptsOf keyedOf
   -- "whose session it then gives"
   pub same-session :

@@ -15,7 +15,7 @@ use Rattle.mac.specs.Promises.{Promises, IsHmac, InOrder, AnyCuttingOf, 
 use Rattle.mac.specs.declared.Code.{Code}
 use Rattle.mac.specs.declared.CodeUpdated.{CodeUpdated}
 use Rattle.mac.proofs.Blocks.{key-block, xored}
-use Rattle.mac.proofs.States.{parts-in-order, in-order-parts, starts, start-takes, total-started, inOrder-started, inOrder-taken, update-takes, update-passes}
+use Rattle.mac.proofs.States.{parts-in-order, in-order-parts, starts-in-order, start-takes, total-started, inOrder-started, inOrder-taken, update-takes, update-passes}
 use Rattle.mac.proofs.Cutting.{fed, all-pieces, finish-started}
 use Rattle.mac.proofs.Calls.{code-is}
 use Rattle.mac.proofs.Tables.{length-hmac, tables, state-compared, message-compared}
@@ -77,7 +77,8 @@ proved =
       xored = xored;
       is-hmac = is-hmac;
       in-order = in-order;
-      started = starts;
+      empty-key = rw (start-takes [] (omega arith));
+      started = starts-in-order;
       any-cutting = any-cutting;
       past-longest = past-longest;
       one-call = one-call;

@@ -24,7 +24,6 @@ use Rattle.hash.proofs.Refusing.{finish-refusals as finish-rows}
 use Rattle.mac.specs.Hmac.{_⊕_, ipad, opad, keyBlock}
 use Rattle.mac.specs.Codes.{started, start, inOrder, update, finish}
 use Rattle.mac.specs.Rows.{Ordered, afterBlock}
-use Rattle.mac.specs.Promises.{Started}
 use Rattle.mac.specs.declared.Code.{Code}
 use Rattle.mac.specs.declared.CodeUpdated.{CodeUpdated}
 use Rattle.mac.proofs.Blocks.{length-xored, length-block, fresh-takes, block-taken}
@@ -158,14 +157,10 @@ module _ (key : List ℕ) where
   unfolding start
   start-passes past = rw (lt-ltb longest (length key) past)
 
--- as it is promised
-pub starts : (key : List ℕ) → Started key
-starts key =
-    record {
-      empty-key = rw (start-takes [] (omega arith));
-      in-order =
-          elim (below-or-not longest (length key)) [
-            | inl past ↦ rw (start-passes key past) (inOrder-started [])
-            | inr fits ↦ rw (start-takes key fits) (inOrder-started key)
-          ];
-    }
+-- what is started is in order
+pub starts-in-order : (key : List ℕ) → inOrder (start key .state) ≡ true
+starts-in-order key =
+    elim (below-or-not longest (length key)) [
+      | inl past ↦ rw (start-passes key past) (inOrder-started [])
+      | inr fits ↦ rw (start-takes key fits) (inOrder-started key)
+    ]

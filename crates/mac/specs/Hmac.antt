@@ -14,7 +14,7 @@ ipad = replicate 64 0x36
 unfoldable pub opad : List ℕ
 opad = replicate 64 0x5c
 
--- XOR, byte by byte
+-- XOR, byte by byte (of as many bytes as the shorter has: here both have 64)
 infixl 50 _⊕_
 unfoldable pub _⊕_ : List ℕ → List ℕ → List ℕ
 [] ⊕ ys = []

@@ -40,11 +40,6 @@ pub record IsHmac (key message code : List ℕ) : Type 0 where
 abbrev pub InOrder : Type 0
 InOrder = (c : Code) → (inOrder c ≡ true) ↔ Ordered c
 
--- "An empty key is a key"; what is started is in order, whatever the key
-pub record Started (key : List ℕ) : Type 0 where
-  pub empty-key : start [] .number ≡ accepted
-  pub in-order : inOrder (start key .state) ≡ true
-
 -- "fed by pieces", however it is cut, of any start, update and finish: for every key of at most 2^61 - 1 bytes and every list of pieces
 -- whose joined length is at most 2^61 - 65, each update answers 0, and finish answers the code of the joined bytes
 abbrev pub AnyCuttingOf :
@@ -129,7 +124,9 @@ pub record Promises : Type 0 where
   pub xored : (block : List ℕ) (pad : ℕ) → length block ≡ 64 → Xored block pad
   pub is-hmac : (key message : List ℕ) → IsHmac key message (hmac key message)
   pub in-order : InOrder
-  pub started : (key : List ℕ) → Started key
+  -- "An empty key is a key"; what is started is in order, whatever the key
+  pub empty-key : start [] .number ≡ accepted
+  pub started : (key : List ℕ) → inOrder (start key .state) ≡ true
   pub any-cutting : AnyCuttingOf start update finish
   pub past-longest : PastLongest
   pub one-call : OneCall
