@@ -1,6 +1,7 @@
 -- `keyed`: any two results that meet a contract coincide; and that of reading is a row of what is promised, of its own key and text. Assumes nothing.
-use mathlib.Core.Path.{sym, _∙_}
+use mathlib.Core.Path.{_≡_, sym, _∙_}
 use denote.Ref.{now}
+use Rattle.keyed.specs.Keyed.{covered as coveredOf, keyedVerdict}
 use Rattle.keyed_promises.specs.Answers.{MacRow, Answered}
 use Rattle.keyed_promises.proofs.Proved.{proved as keyed}
 use Rattle.coincide.proofs.Coding.{keyed-whole}
@@ -19,8 +20,14 @@ mac-number-rows κs a r e = keyed .mac-numbers (now (a .0)) (now (a .1 .0)) r
 pub covered : PartsCoincide covered′.ended (λ κs r. r) covered′.Reads.Post
 covered κs a x y e f p q = (p .0 ∙ sym (q .0), p .1 ∙ sym (q .1))
 
+pub covered-means : Means covered′.ended covered′.Reads.Post (λ κs a r e. (now r ≡ coveredOf (now (a .0)) (a .1 .0)) × (r .ptr ≡ a .0 .ptr))
+covered-means κs a r e = (λ p. p, λ p. p)
+
 pub verdict-of : Coincide verdict-of′.ended verdict-of′.Reads.Post
 verdict-of κs a x y e f p q = p ∙ sym q
+
+pub verdict-of-means : Means verdict-of′.ended verdict-of′.Reads.Post (λ κs a r e. r ≡ keyedVerdict (a .0) (a .1 .0))
+verdict-of-means κs a r e = (λ p. p, λ p. p)
 
 pub read : Coincide read′.ended read′.Reads.Post
 read κs a x y e f p q = p ∙ sym q

@@ -1,6 +1,9 @@
 -- `sheet`: any two results that meet a contract coincide; and that of reading is what is promised, of its own text. Assumes nothing.
-use mathlib.Core.Path.{sym, _∙_}
+use mathlib.Core.Path.{_≡_, sym, _∙_}
 use denote.Ref.{now}
+use Rattle.session.specs.Sessions.{emptySession}
+use Rattle.sheet.specs.Judging.{entriesAt, withNotes}
+use Rattle.sheet.specs.Filling.{withListed}
 use Rattle.coincide.proofs.Reading.{SheetRow, reads-whole}
 use Rattle.coincide.specs.Coincide.{Coincide, Means}
 use Rattle.sheet.proofs.header_at as header-at′
@@ -36,6 +39,10 @@ listing-at κs a x y e f p q = p ∙ sym q
 
 pub filled : Coincide filled′.ended filled′.Reads.Post
 filled κs a x y e f p q = p ∙ sym q
+
+pub filled-means : Means filled′.ended filled′.Reads.Post
+    (λ κs a r e. r ≡ withListed (withNotes emptySession (entriesAt (a .1 .1 .0) (now (a .0)) (a .1 .0))) (a .1 .1 .1 .0))
+filled-means κs a r e = (λ p. p, λ p. p)
 
 pub read : Coincide read′.ended read′.Reads.Post
 read κs a x y e f p q = p ∙ sym q

@@ -45,11 +45,11 @@ macNumber key text =
     (cond (leb macLength (length text) && beginsLine text at && isGood (line .stop)) (codeNumber key (take at text) (line .digest))
     noMacLine)
 
--- "all bytes before that line"; none of them where that line was refused
+-- "all bytes before that line"; none where the number is a refusal
 unfoldable pub covered : (text : List ℕ) (number : ℕ) → List ℕ
 covered text number = cond (eqb number accepted) (take (length text - macLength) text) []
 
--- "then 1 to 4; the first four return line 0"
+-- "then 1 to 4; the first four return line 0": the verdict, from the number and what the sheet was judged
 unfoldable pub keyedVerdict : (number : ℕ) → Verdict → Verdict
 keyedVerdict number sheet = cond (eqb number accepted) sheet (verdictAt number 0)
 

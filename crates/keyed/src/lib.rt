@@ -57,7 +57,8 @@ fn code_number(key: &[u8], bytes: &[u8], code: [u8; 32]) -> u8
     if c.same { ACCEPTED } else { OTHER_CODE }
 }
 
-// Key, MAC line and code: refusals 10 for the key, 17, 10 for the text, 18. What is refused by a length is not looked at.
+// Key, MAC line and code: refusals 10 for the key, 17, 10 for the text, 18. A key that is too long and a text under 69 bytes are refused
+// unread, a text that is too long after its last 70 bytes.
 pub fn mac_number(key: &[u8], text: &[u8]) -> u8
     ensures { λ r. ⌜ r ≡ macNumber (now (key .entry)) (now (text .entry)) ⌝ }
 {
@@ -79,7 +80,8 @@ pub fn mac_number(key: &[u8], text: &[u8]) -> u8
     code_number(key, &text[..at], code)
 }
 
-// The bytes before the MAC line, where that was accepted; else none: they are never read as a sheet.
+// The bytes before the MAC line, where the number is no refusal (no text that was accepted is shorter than that line); else none: they are
+// never read as a sheet.
 pub fn covered(text: &[u8], number: u8) -> &[u8]
     ensures { λ r. ⌜ now r ≡ covered (now (text .entry)) number ⌝ }
     ensures { λ r. ⌜ r .ptr ≡ text .entry .ptr ⌝ }

@@ -46,7 +46,7 @@ pub record Promises : Type 0 where
       → keyedOf key text ≡ sheetOf (s .bytes)
   -- no note of a refused text is listed
   pub none-listed : (key text : List ℕ) → (keyedOf key text .verdict .number ≡ accepted → ⊥) → Lists (keyedOf key text .session) []
-  -- the bytes and the code of a text are what they are, and the MAC line has 69 bytes
+  -- a text ends in a MAC line in one way only, and that line has 69 bytes
   pub one-reading :
       (text bytes others code other : List ℕ) → EndsInMac text bytes code → EndsInMac text others other → (bytes ≡ others) × (code ≡ other)
   pub mac-size : (text bytes code : List ℕ) → (m : EndsInMac text bytes code) → (length (m .line) ≡ 69) × (length code ≡ 32)

@@ -1,33 +1,47 @@
 -- The example is a keyed sheet under its key, and not under the other. Assumes nothing.
-use Prim.Native.Nat.{ℕ, _+_, _≤_}
+use Prim.Native.Nat.{ℕ, _+_, _-_, _≤_}
 use mathlib.Core.Path.{_≡_, refl, sym, ap, _∙_, subst}
+use mathlib.Core.Bool.{true, false}
+use mathlib.Core.Logic.{inl}
 use mathlib.Core.List.{List, [], _∷_, _++_, append-nil}
 use native.Mathlib.Omega.{arith}
 use lib.ListN.{length, getD, drop}
 use Rattle.hex.specs.Digits.{within, digitOf}
 use Rattle.units.specs.Units.{longest}
 use Rattle.word.specs.BigEndian.{bigEndian}
-use Rattle.lines.specs.Fields.{digitAt, isDigitAt, pairAt, digestFrom, digestAt}
+use Rattle.lines.specs.Reading.{isGood, hasAt, markAfter, wordAt, wordAfter}
+use Rattle.lines.specs.Lines.{headerLine}
+use Rattle.lines.specs.Fields.{fieldAfter, digitAt, isDigitAt, pairAt, digestFrom, digestAt}
 use Rattle.printed.specs.Printed.{bytesOf}
 use Rattle.mac.specs.Hmac.{hmac}
+use Rattle.sheet.specs.Judging.{headerNumber, verdictAt, judged, sheetOf}
+use Rattle.keyed.specs.Keyed.{beginsLine}
 use Rattle.sheet_promises.specs.Grammar.{IsDigest}
 use Rattle.sheet_promises.specs.Promises.{Lists}
 use Rattle.sheet_promises.proofs.Digests.{digest-stands}
 use Rattle.sheet_promises.proofs.Proved.{proved as sheets}
 use Rattle.rejected.specs.Example.{text, notes}
 use Rattle.rejected.proofs.Proved.{proved as rejected}
-use Rattle.keyed_promises.specs.Grammar.{IsMacLine, EndsInMac, IsKeyedSheet}
+use Rattle.keyed_promises.specs.Grammar.{IsMacLine, LineBegins, EndsInMac, IsKeyedSheet}
 use Rattle.keyed_promises.proofs.Endings.{sheet-begins}
-use Rattle.keyed_rejected.specs.Example.{key, otherKey, code, codeByOther, codeOfNone, characters, macLine, keyedText}
+use Rattle.keyed_rejected.specs.Example.{key, otherKey, code, codeByOther, codeOfNone, characters, charactersOfNone, macLine, keyedText, lineAlone, notBegun}
 use Rattle.keyed_rejected.proofs.Computed.{computed}
 
--- the 64 characters are the code's
+-- 64 characters that are read to their end are those of the code that is read
+whole-digest : (characters bytes : List ℕ) → isGood (digestAt characters 0 .stop) ≡ true → drop (digestAt characters 0 .stop .at) characters ≡ []
+    → digestAt characters 0 .digest ≡ bytes → IsDigest characters bytes
+whole-digest characters bytes good ends is =
+    let s = digest-stands characters 0 good in
+    let all : s .piece ≡ characters = sym (s .part .cut ∙ ap (λ (r : List ℕ). s .piece ++ r) ends ∙ append-nil (s .piece)) in
+    subst (IsDigest characters) is (subst (λ (t : List ℕ). IsDigest t (digestAt characters 0 .digest)) all (s .is-digest))
+
 are-code : IsDigest characters code
 unfolding characters code bytesOf bigEndian digestAt digestFrom isDigitAt digitAt pairAt digitOf within
-are-code =
-    let s = digest-stands characters 0 refl in
-    let all : s .piece ≡ characters = sym (append-nil (s .piece)) ∙ sym (s .part .cut) in
-    subst (λ (t : List ℕ). IsDigest t code) all (s .is-digest)
+are-code = whole-digest characters code refl refl refl
+
+are-code-of-none : IsDigest charactersOfNone codeOfNone
+unfolding charactersOfNone codeOfNone bytesOf bigEndian digestAt digestFrom isDigitAt digitAt pairAt digitOf within
+are-code-of-none = whole-digest charactersOfNone codeOfNone refl refl refl
 
 is-mac-line : IsMacLine macLine code
 unfolding macLine
@@ -85,3 +99,24 @@ ends =
 
 pub other-code : code ≡ hmac otherKey text → ⊥
 other-code e = keys-differ (computed .example ∙ e)
+
+-- the MAC line alone, and one that does not begin a line
+pub ends-alone : EndsInMac lineAlone [] (hmac key [])
+unfolding lineAlone LineBegins
+ends-alone =
+    record {
+      line = lineAlone;
+      is-mac-line =
+          subst (IsMacLine lineAlone) (sym (computed .of-none)) (record { characters = charactersOfNone; are-code = are-code-of-none; whole = refl });
+      line-begins = inl refl;
+      whole = refl;
+    }
+
+pub begins-not : (69 ≤ length notBegun) × (beginsLine notBegun (length notBegun - 69) ≡ false)
+unfolding notBegun macLine characters beginsLine hasAt
+begins-not = (omega arith, refl)
+
+-- no text is no sheet
+pub nothing-read : sheetOf [] .verdict ≡ record { number = 1; line = 1 }
+unfolding sheetOf judged headerNumber headerLine wordAfter wordAt markAfter fieldAfter hasAt verdictAt
+nothing-read = refl

@@ -23,13 +23,15 @@ use Rattle.sheet_promises.proofs.Proved.{proved as sheets}
 use Rattle.rejected.specs.Example.{text, notes}
 use Rattle.rejected.proofs.Proved.{proved as rejected}
 use Rattle.keyed.specs.Keyed.{keyedOf}
+use Rattle.keyed.proofs.Judging.{not-begun, keyed-refused}
+use Rattle.keyed_promises.proofs.Rows.{sheet-read}
 use Rattle.keyed_promises.specs.Answers.{is-read, mac-refused, other-code as code-is-other}
 use Rattle.keyed_promises.specs.Promises.{AcceptsOf}
 use Rattle.keyed_promises.proofs.Proved.{proved as keyed}
-use Rattle.keyed_rejected.specs.Example.{key, otherKey, code, keyedText}
+use Rattle.keyed_rejected.specs.Example.{key, otherKey, code, keyedText, lineAlone, notBegun}
 use Rattle.keyed_rejected.specs.Promises.{Promises}
 use Rattle.keyed_rejected.proofs.Computed.{computed}
-use Rattle.keyed_rejected.proofs.Example.{is-keyed-sheet, keys-differ, messages-differ, key-fits, other-fits, text-fits, ends, other-code}
+use Rattle.keyed_rejected.proofs.Example.{is-keyed-sheet, keys-differ, messages-differ, key-fits, other-fits, text-fits, ends, ends-alone, begins-not, nothing-read, other-code}
 
 -- the text in one piece
 one : joined (text ∷ []) ≡ text
@@ -89,6 +91,15 @@ read =
 refused : (record { number = 18; line = 0 } ≡ keyedOf otherKey keyedText .verdict) × (emptySession ≡ keyedOf otherKey keyedText .session)
 refused = keyed .answers otherKey keyedText _ emptySession .1 (mac-refused (code-is-other text code other-fits ends text-fits other-code) (λ a. omega arith) lists-none)
 
+-- a MAC line alone, and one that does not begin a line
+alone : keyedOf key lineAlone .verdict ≡ record { number = 1; line = 1 }
+alone = ap (λ (r : Sheet). r .verdict) (sheet-read key lineAlone [] key-fits ends-alone (omega arith)) ∙ nothing-read
+
+begun-not : keyedOf key notBegun .verdict ≡ record { number = 17; line = 0 }
+begun-not =
+    let n = not-begun key notBegun key-fits (begins-not .0) (begins-not .1) in
+    rw (keyed-refused key notBegun (λ a. omega arith), n)
+
 -- readers
 module _ (reading : (k t : List ℕ) → Sheet) (accepts : AcceptsOf reading) where
   refuses-all : ((k t : List ℕ) → reading k t .verdict .number ≡ accepted → ⊥) → ⊥
@@ -116,6 +127,8 @@ proved =
       lists = rw (← read .1) (sheets .lists text notes (rejected .is-sheet));
       other-refused = sym (refused .0);
       other-lists = rw (← refused .1) lists-none;
+      line-alone = alone;
+      not-begun = begun-not;
       constant = no-constant;
       constant-call = λ d are. call-key (λ k m. d) are (λ k other m. refl);
       no-key = no-key;

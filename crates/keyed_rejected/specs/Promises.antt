@@ -15,7 +15,7 @@ use Rattle.rejected.specs.Example.{text, notes}
 use Rattle.keyed.specs.Keyed.{keyedOf}
 use Rattle.keyed_promises.specs.Grammar.{IsKeyedSheet}
 use Rattle.keyed_promises.specs.Promises.{AcceptsOf}
-use Rattle.keyed_rejected.specs.Example.{key, otherKey, code, codeByOther, codeOfNone, keyedText}
+use Rattle.keyed_rejected.specs.Example.{key, otherKey, code, codeByOther, codeOfNone, keyedText, lineAlone, notBegun}
 
 -- the definition of HMAC, run
 pub record Run : Type 0 where
@@ -31,6 +31,10 @@ pub record Promises : Type 0 where
   pub lists : Lists (keyedOf key keyedText .session) notes
   pub other-refused : keyedOf otherKey keyedText .verdict ≡ record { number = 18; line = 0 }
   pub other-lists : Lists (keyedOf otherKey keyedText .session) []
+  -- a MAC line alone is well formed: with the code of no bytes the empty sheet is refused, 1 at line 1; and one that does not begin a line
+  -- is none (17)
+  pub line-alone : keyedOf key lineAlone .verdict ≡ record { number = 1; line = 1 }
+  pub not-begun : keyedOf key notBegun .verdict ≡ record { number = 17; line = 0 }
   -- a code that is constant, by pieces and in one call
   pub constant :
       (starting : List ℕ → CodeUpdated) (updating : Code → List ℕ → CodeUpdated) (d : Digest)

@@ -1,7 +1,7 @@
 -- The one call, as the code decides it. Assumes nothing.
 use mathlib.Core.Path.{_≡_, refl, sym, ap, _∙_}
 use mathlib.Core.Logic.{inl, inr}
-use Prim.Native.Nat.{ℕ, _+_, _-_, _≤_, _<_}
+use Prim.Native.Nat.{ℕ, _+_, _≤_, _<_}
 use native.Mathlib.Omega.{arith}
 use mathlib.Core.List.{List, _++_}
 use lib.ListN.{length, length-append}
@@ -25,11 +25,11 @@ module _ (key m : List ℕ) where
 
   pub message-passes : length key ≤ longest → longest < 64 + length m → codeOf key m ≡ noDigest tooLong
   unfolding codeOf
-  message-passes fits past = rw (le-ltb longest (length key) fits, lt-ltb (longest - 64) (length m) (omega arith))
+  message-passes fits past = rw (le-ltb longest (length key) fits, lt-ltb longest (64 + length m) past)
 
   pub code-is : length key ≤ longest → 64 + length m ≤ longest → codeOf key m ≡ record { number = accepted; bytes = hmac key m }
   unfolding codeOf
-  code-is fits short = rw (le-ltb longest (length key) fits, le-ltb (longest - 64) (length m) (omega arith))
+  code-is fits short = rw (le-ltb longest (length key) fits, le-ltb longest (64 + length m) short)
 
   -- the inner digest, and the code by it
   module _ (fits : length key ≤ longest) (inner : Digest) (e : inner ≡ digest (inside key ++ m)) where

@@ -18,7 +18,7 @@ use Rattle.hash.proofs.Cutting.{finish-fresh}
 use Rattle.hash.proofs.Refusing.{length-sm3}
 use Rattle.mac.specs.Hmac.{_⊕_, ipad, opad, keyBlock, hmac}
 use Rattle.mac.specs.Codes.{started, inOrder, update, finish}
-use Rattle.mac.specs.Cutting.{afterAllOf, numbersOf, afterAll, numbers}
+use Rattle.mac.specs.Cutting.{afterAllOf, numbersOf}
 use Rattle.mac.specs.declared.Code.{Code}
 use Rattle.mac.proofs.States.{parts-in-order, update-takes, inOrder-taken, inOrder-started, finish-outer, inside, outside, length-inside, length-outside, started-taken, total-started, taken-in-order, taken-total}
 
@@ -28,7 +28,7 @@ fed c piece = record { inner = afterPiece (c .inner) piece; outer = c .outer }
 
 -- every piece is taken, and together they are taken as the joined piece
 pub all-pieces : (c : Code) (pieces : List (List ℕ)) → inOrder c ≡ true → c .inner .total + length (joined pieces) ≤ longest
-    → (numbers c pieces ≡ replicate (length pieces) accepted) × (afterAll c pieces ≡ fed c (joined pieces))
+    → (numbersOf update c pieces ≡ replicate (length pieces) accepted) × (afterAllOf update c pieces ≡ fed c (joined pieces))
 unfolding joined afterAllOf numbersOf
 all-pieces c [] o fits = (refl, rw (afterPiece-nil (c .inner) (parts-in-order c o .0)))
 all-pieces c (x ∷ pieces) o fits =

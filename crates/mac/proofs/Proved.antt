@@ -10,7 +10,7 @@ use Rattle.hash.proofs.State.{total-le}
 use Rattle.hash.proofs.Taking.{total-afterPiece, afterPiece-nil}
 use Rattle.mac.specs.Hmac.{ipad, opad, hmac}
 use Rattle.mac.specs.Codes.{started, start, update, finish}
-use Rattle.mac.specs.Cutting.{afterAllOf, numbersOf, afterAll}
+use Rattle.mac.specs.Cutting.{afterAllOf, numbersOf}
 use Rattle.mac.specs.Promises.{Promises, IsHmac, InOrder, AnyCuttingOf, PastLongest, OneCall, PieceByPiece, EmptyPiece, AtLongest, Cut}
 use Rattle.mac.specs.declared.Code.{Code}
 use Rattle.mac.specs.declared.CodeUpdated.{CodeUpdated}
@@ -32,10 +32,10 @@ module _ (key : List ℕ) (pieces : List (List ℕ)) (fits : length key ≤ long
   from-started : started key .inner .total + length (joined pieces) ≤ longest
   from-started = omega (arith, total-started key)
 
-  after-started : afterAll (start key .state) pieces ≡ fed (started key) (joined pieces)
+  after-started : afterAllOf update (start key .state) pieces ≡ fed (started key) (joined pieces)
   after-started = rw (start-takes key fits) (all-pieces (started key) pieces (inOrder-started key) from-started .1)
 
-  finished : finish (afterAll (start key .state) pieces) ≡ record { number = 0; bytes = hmac key (joined pieces) }
+  finished : finish (afterAllOf update (start key .state) pieces) ≡ record { number = 0; bytes = hmac key (joined pieces) }
   finished = rw after-started (finish-started key (joined pieces) short)
 
 any-cutting : AnyCuttingOf start update finish

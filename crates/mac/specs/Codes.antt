@@ -1,5 +1,5 @@
 -- A code state and its calls: 4/13, "fed by pieces as the hash is, with comparison". "Order 9, 10, 11".
-use Prim.Native.Nat.{ℕ, _-_}
+use Prim.Native.Nat.{ℕ, _+_}
 use mathlib.Core.List.{List, []}
 use mathlib.Core.Bool.{Bool, cond, _&&_}
 use lib.Dec.{leb, ltb, eqb}
@@ -25,12 +25,12 @@ unfoldable pub start : (key : List ℕ) → CodeUpdated
 start key =
     cond (ltb longest (length key)) (record { number = tooLong; state = started [] }) (record { number = accepted; state = started key })
 
--- "9 for a stored code state where a hash state isn't in order, the inner has under 64 bytes or the outer other than 64"
+-- in order: none of "a hash state isn't in order, the inner has under 64 bytes or the outer other than 64"
 unfoldable pub inOrder : Code → Bool
 inOrder c = hashInOrder (c .inner) && hashInOrder (c .outer) && leb 64 (c .inner .total) && eqb (c .outer .total) 64
 
--- the piece goes into the inner, which counts its 64-byte block: so its 10 is that of "a message that passes it with its inner 64-byte
--- block counted". Refused, the state is the same
+-- the piece goes into the inner, whose total has the 64 bytes of the key's block in it: so its 10 is that of "a message that passes it with
+-- its inner 64-byte block counted". Refused, the state is the same
 unfoldable pub update : Code → (piece : List ℕ) → CodeUpdated
 update c piece =
     let inner = hashUpdate (c .inner) piece in
@@ -46,7 +46,7 @@ finish c =
 unfoldable pub codeOf : (key message : List ℕ) → Digest
 codeOf key message =
     cond (ltb longest (length key)) (noDigest tooLong)
-    (cond (ltb (longest - 64) (length message)) (noDigest tooLong) (record { number = accepted; bytes = hmac key message }))
+    (cond (ltb longest (64 + length message)) (noDigest tooLong) (record { number = accepted; bytes = hmac key message }))
 
 -- "with comparison": of a state, and of key and message. What the code was refused for comes first, then 11, "a code not of 32 bytes"
 unfoldable pub compareState : Code → (expected : List ℕ) → Compared

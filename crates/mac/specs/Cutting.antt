@@ -1,7 +1,6 @@
 -- A message that arrives in pieces: each is given to a code's update in its turn. (The pieces, joined, are the crate hash's.)
 use Prim.Native.Nat.{ℕ}
 use mathlib.Core.List.{List, [], _∷_}
-use Rattle.mac.specs.Codes.{update}
 use Rattle.mac.specs.declared.Code.{Code}
 use Rattle.mac.specs.declared.CodeUpdated.{CodeUpdated}
 
@@ -14,9 +13,3 @@ afterAllOf updating c (piece ∷ pieces) = afterAllOf updating (updating c piece
 unfoldable pub numbersOf : (updating : Code → List ℕ → CodeUpdated) → Code → List (List ℕ) → List ℕ
 numbersOf updating c [] = []
 numbersOf updating c (piece ∷ pieces) = updating c piece .number ∷ numbersOf updating (updating c piece .state) pieces
-
-abbrev pub afterAll : Code → List (List ℕ) → Code
-afterAll = afterAllOf update
-
-abbrev pub numbers : Code → List (List ℕ) → List ℕ
-numbers = numbersOf update

@@ -14,7 +14,7 @@ ipad = replicate 64 0x36
 unfoldable pub opad : List ℕ
 opad = replicate 64 0x5c
 
--- XOR, byte by byte (of as many bytes as the shorter has: here both have 64)
+-- XOR, byte by byte, as far as both go (here both have 64 bytes)
 infixl 50 _⊕_
 unfoldable pub _⊕_ : List ℕ → List ℕ → List ℕ
 [] ⊕ ys = []
@@ -25,7 +25,7 @@ unfoldable pub _⊕_ : List ℕ → List ℕ → List ℕ
 unfoldable pub shortKey : (key : List ℕ) → List ℕ
 shortKey key = cond (ltb 64 (length key)) (sm3 key) key
 
--- and has zeros behind it, to 64 bytes
+-- RFC 2104's K: the key, or its digest, with zeros behind it to 64 bytes
 unfoldable pub keyBlock : (key : List ℕ) → List ℕ
 keyBlock key = shortKey key ++ replicate (64 - length (shortKey key)) 0
 

@@ -16,7 +16,7 @@ use Rattle.hash.specs.declared.Compared.{Compared}
 use Rattle.mac.specs.Hmac.{_⊕_, keyBlock, hmac}
 use Rattle.mac.specs.Codes.{start, inOrder, update, finish, codeOf, compareState, compareMessage}
 use Rattle.mac.specs.Rows.{StartRow, Ordered, UpdateRow, FinishRow, CodeRow, HeldRow}
-use Rattle.mac.specs.Cutting.{afterAllOf, numbersOf, afterAll, numbers}
+use Rattle.mac.specs.Cutting.{afterAllOf, numbersOf}
 use Rattle.mac.specs.declared.Code.{Code}
 use Rattle.mac.specs.declared.CodeUpdated.{CodeUpdated}
 
@@ -36,7 +36,7 @@ pub record IsHmac (key message code : List ℕ) : Type 0 where
   pub formula : code ≡ sm3 ((keyBlock key ⊕ replicate 64 0x5c) ++ sm3 ((keyBlock key ⊕ replicate 64 0x36) ++ message))
   pub size : length code ≡ 32
 
--- "9 for a stored code state where a hash state isn't in order, the inner has under 64 bytes or the outer other than 64"
+-- in order: none of "a hash state isn't in order, the inner has under 64 bytes or the outer other than 64"
 abbrev pub InOrder : Type 0
 InOrder = (c : Code) → (inOrder c ≡ true) ↔ Ordered c
 
@@ -55,13 +55,14 @@ abbrev pub PastLongest : Type 0
 PastLongest =
     (key : List ℕ) (pieces : List (List ℕ)) (piece : List ℕ) → length key ≤ longest → 64 + length (joined pieces) ≤ longest
     → longest < 64 + length (joined pieces) + length piece
-    → update (afterAll (start key .state) pieces) piece ≡ record { number = tooLong; state = afterAll (start key .state) pieces }
+    → update (afterAllOf update (start key .state) pieces) piece
+    ≡ record { number = tooLong; state = afterAllOf update (start key .state) pieces }
 
 -- one call for key and message: it answers the same as every cutting
 abbrev pub OneCall : Type 0
 OneCall =
     (key : List ℕ) (pieces : List (List ℕ)) → length key ≤ longest → 64 + length (joined pieces) ≤ longest
-    → codeOf key (joined pieces) ≡ finish (afterAll (start key .state) pieces)
+    → codeOf key (joined pieces) ≡ finish (afterAllOf update (start key .state) pieces)
 
 -- and with no cutting in the sentence, of any one call
 abbrev pub CodesOf : (coding : (key message : List ℕ) → Digest) → Type 0
@@ -73,9 +74,9 @@ CodesOf coding =
 abbrev pub PieceByPiece : Type 0
 PieceByPiece =
     (c : Code) (pieces : List (List ℕ)) → inOrder c ≡ true → c .inner .total + length (joined pieces) ≤ longest
-    → (numbers c pieces ≡ replicate (length pieces) accepted)
-    × (afterAll c pieces ≡ update c (joined pieces) .state)
-    × (inOrder (afterAll c pieces) ≡ true)
+    → (numbersOf update c pieces ≡ replicate (length pieces) accepted)
+    × (afterAllOf update c pieces ≡ update c (joined pieces) .state)
+    × (inOrder (afterAllOf update c pieces) ≡ true)
 
 -- an empty piece changes nothing, at the limit too; there one byte is refused (10)
 abbrev pub EmptyPiece : Type 0

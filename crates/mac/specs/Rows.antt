@@ -17,10 +17,11 @@ use Rattle.mac.specs.Hmac.{_⊕_, keyBlock, hmac}
 use Rattle.mac.specs.declared.Code.{Code}
 use Rattle.mac.specs.declared.CodeUpdated.{CodeUpdated}
 
--- a hash state that has taken one block, and a key's state: the inner has taken the key's block XOR ipad, the outer the same XOR opad
+-- a hash state that has taken one block
 abbrev pub afterBlock : (block : List ℕ) → Hash
 afterBlock block = record { words = folded IV block; total = 64; tail = replicate 64 0 }
 
+-- a key's state: the inner has taken K XOR ipad, the outer K XOR opad
 abbrev pub keyState : (key : List ℕ) → Code
 keyState key =
     record { inner = afterBlock (keyBlock key ⊕ replicate 64 0x36); outer = afterBlock (keyBlock key ⊕ replicate 64 0x5c) }

@@ -100,7 +100,7 @@ pub fn start(key: &[u8]) -> CodeUpdated
 }
 
 impl Code {
-    // "a hash state isn't in order, the inner has under 64 bytes or the outer other than 64"
+    // In order: none of "a hash state isn't in order, the inner has under 64 bytes or the outer other than 64".
     pub fn in_order(self) -> bool
         ensures { λ r. ⌜ r ≡ inOrder self ⌝ }
     {
@@ -156,7 +156,7 @@ impl Code {
     }
 }
 
-// One call for a key and a message, by the formula: refusal 10, of the key and then of the message. No code state is laid down for it.
+// One call for a key and a message, by the formula: refusal 10, of the key and then of the message. It keeps no code state on the stack.
 pub fn code_of(key: &[u8], message: &[u8]) -> Digest
     ensures { λ r. ⌜ r ≡ codeOf (now (key .entry)) (now (message .entry)) ⌝ }
 {
