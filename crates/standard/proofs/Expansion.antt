@@ -75,7 +75,7 @@ expansion-begins B n h =
     let rest : n + (52 - n) ≡ 52 = omega arith in
     ap₂ (λ (a b : ℕ). take (a + n) (extended b (split 16 B))) (sym (length-split 16 B)) (sym rest) ∙ extended-begins n (52 - n) (split 16 B)
 
-getD-split : (n j : ℕ) (B : List ℕ) → j < n → getD (split n B) j 0 ≡ wordAt B j
+pub getD-split : (n j : ℕ) (B : List ℕ) → j < n → getD (split n B) j 0 ≡ wordAt B j
 unfolding split
 getD-split zero j B h = absurd (omega arith)
 getD-split (suc n) zero B h = refl

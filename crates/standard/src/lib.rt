@@ -49,18 +49,19 @@ fn gg(j: u32, x: u32, y: u32, z: u32) -> u32
     if j < 16 { x ^ y ^ z } else { ((y ^ z) & x) ^ z }
 }
 
-// The permutation of the compression.
+// The permutation of the compression, x ^ rotate(x, 9) ^ rotate(x, 17). With one rotation inside the other the word is copied once
+// less (`rotations-nested` in proofs/Rotation.antt of `word` joins the two).
 fn p0(x: u32) -> u32
     ensures { λ r. ⌜ r ≡ P0 x ⌝ }
 {
-    x ^ word::rotate(x, 9) ^ word::rotate(x, 17)
+    x ^ word::rotate(x ^ word::rotate(x, 8), 9)
 }
 
-// The permutation of the expansion.
+// The permutation of the expansion, x ^ rotate(x, 15) ^ rotate(x, 23), in the same way.
 pub fn p1(x: u32) -> u32
     ensures { λ r. ⌜ r ≡ P1 x ⌝ }
 {
-    x ^ word::rotate(x, 15) ^ word::rotate(x, 23)
+    x ^ word::rotate(x ^ word::rotate(x, 8), 15)
 }
 
 // Round j on the registers r, with Wj and W'j.

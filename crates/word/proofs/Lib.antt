@@ -1,4 +1,5 @@
 pub mod Turning
+pub mod Xor
 pub mod Rotation
 pub mod BigEndian
 pub mod Proved

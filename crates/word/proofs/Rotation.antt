@@ -4,9 +4,10 @@ use mathlib.Core.Logic.{⊎-elim}
 use Prim.Native.Nat.{ℕ, zero, suc, _+_, _-_, _*_, _/_, _%_, _^_, _<_, _≤_}
 use native.Mathlib.Nat.{add-suc, add-zero, mod-mod, mul-one, div-one, mod-eq-of-lt, eq-or-lt-of-le, eq-zero-or-pos}
 use native.Mathlib.Omega.{arith}
-use lib.Bits.{bitOr, or-self}
+use lib.Bits.{bitOr, bitXor, or-self}
 use Rattle.word.specs.Rotation.{_<<<_}
-use Rattle.word.proofs.Turning.{turn, turn-or, turn-lt, turn-none, turn-all, turn-further}
+use Rattle.word.proofs.Turning.{turn, turn-or, turn-lt, turn-xor, turn-none, turn-all, turn-further}
+use Rattle.word.proofs.Xor.{xor-assoc}
 
 -- x <<< k is a turn by k % 32 places
 rotated : (k x m n : ℕ) → k % 32 ≡ n → m + n ≡ 32 → x <<< k ≡ turn m n x
@@ -56,6 +57,24 @@ rotated-add x a zero h = ap (λ (k : ℕ). x <<< k) (add-zero a) ∙ sym (rotate
 rotated-add x a (suc b) h =
     ap (λ (k : ℕ). x <<< k) (add-suc a b) ∙ rotated-suc x (a + b) h ∙ ap (λ (y : ℕ). y <<< 1) (rotated-add x a b h)
     ∙ sym (rotated-suc (x <<< a) b (rotated-lt x a h))
+
+-- two words xored rotate as each of them does
+pub rotated-xor : (x y k : ℕ) → x < 2 ^ 32 → y < 2 ^ 32 → bitXor x y <<< k ≡ bitXor (x <<< k) (y <<< k)
+rotated-xor x y k hx hy =
+    by-turn (bitXor x y) ∙ turn-xor (32 - k % 32) (k % 32) x y (wide x hx) (wide y hy) ∙ sym (ap₂ bitXor (by-turn x) (by-turn y))
+  where
+    by-turn : (z : ℕ) → z <<< k ≡ turn (32 - k % 32) (k % 32) z
+    by-turn z = rotated k z (32 - k % 32) (k % 32) refl (two-parts k)
+
+    wide : (z : ℕ) → z < 2 ^ 32 → z < 2 ^ ((32 - k % 32) + k % 32)
+    wide z h = subst (λ (e : ℕ). z < 2 ^ e) (sym (two-parts k)) h
+
+-- a word xored with two rotations of it, by b and by a + b places: y is the inner rotation, z the one around it
+pub rotations-nested : (x a b y z : ℕ) → x < 2 ^ 32 → y ≡ x <<< a → z ≡ bitXor x y <<< b
+    → bitXor x z ≡ bitXor (bitXor x (x <<< b)) (x <<< (a + b))
+rotations-nested x a b y z h ey ez =
+    ap (bitXor x) (ez ∙ ap (λ (u : ℕ). bitXor x u <<< b) ey ∙ rotated-xor x (x <<< a) b h (rotated-lt x a h) ∙ ap (bitXor (x <<< b)) (sym (rotated-add x a b h)))
+    ∙ sym (xor-assoc x (x <<< b) (x <<< (a + b)))
 
 -- the two shifts that make a rotation in code. By no places both are the word itself.
 pub shifts-rotate : (x k : ℕ) → x < 2 ^ 32 → bitOr (x * 2 ^ (k % 32) % 2 ^ 32) (x / 2 ^ ((32 - k % 32) % 32)) ≡ x <<< k

@@ -6,7 +6,7 @@ use native.Mathlib.Nat.{add-mul, add-assoc, mul-assoc, mul-one, add-zero, zero-a
 use native.Mathlib.Numerals.{add-one}
 use lib.Arith.{digits-mod, digits-lt}
 use lib.Pow.{pow-pos, pow-add, split, high, shr-lt, shr-shr, mod-pow-add}
-use lib.Bits.{bitOr, or-shifted}
+use lib.Bits.{bitOr, bitXor, or-shifted, xor-block, xor-shr, xor-mod}
 
 abbrev pub turn : ℕ → ℕ → ℕ → ℕ
 turn m n x = x * 2 ^ n % 2 ^ (m + n) + x / 2 ^ m
@@ -39,6 +39,13 @@ turn-or m n x h =
   where
     low-up : (m n x : ℕ) → x * 2 ^ n % 2 ^ (m + n) ≡ x % 2 ^ m * 2 ^ n
     low-up m n x = add-right-cancel (x / 2 ^ m) (turn-split m n x)
+
+-- two numbers xored turn as each of them does
+pub turn-xor : (m n x y : ℕ) → x < 2 ^ (m + n) → y < 2 ^ (m + n) → turn m n (bitXor x y) ≡ bitXor (turn m n x) (turn m n y)
+turn-xor m n x y hx hy =
+    turn-split m n (bitXor x y) ∙ ap₂ (λ (a b : ℕ). a * 2 ^ n + b) (xor-mod x y m) (xor-shr x y m)
+    ∙ sym (xor-block n (x % 2 ^ m) (y % 2 ^ m) (x / 2 ^ m) (y / 2 ^ m) (high-lt m n x hx) (high-lt m n y hy))
+    ∙ ap₂ bitXor (sym (turn-split m n x)) (sym (turn-split m n y))
 
 pub turn-none : (m x : ℕ) → x < 2 ^ m → turn m 0 x ≡ x
 turn-none m x h =
