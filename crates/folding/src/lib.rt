@@ -1,4 +1,4 @@
-// SM3's folding of blocks, each read where it lies.
+// SM3's folding of blocks, each read where it lies, by a ring of sixteen words (specs/Ring.antt).
 use standard::Words;
 use standard::p1;
 use standard::round;
@@ -7,56 +7,10 @@ ghost use mathlib.Core.Path.{_≡_};
 ghost use Prim.Native.Nat.{_+_, _*_, _<_, _≤_};
 ghost use lib.ListN.{length, take, drop};
 ghost use Rattle.word.specs.BigEndian.{numberOf};
-ghost use Rattle.standard.specs.Standard.{nextWord, expansion, roundOn, rounds, CF, folded};
+ghost use Rattle.standard.specs.Standard.{split, expansion, CF, folded};
+ghost use Rattle.folding.specs.Ring.{IsWord, Turned, Goes};
 
-// Round j on the expanded words w.
-fn step(r: Words, w: &[u32; 68], j: usize) -> Words
-    requires { ⌜ j < 64 ⌝ }
-    ensures { λ s. ⌜ s ≡ roundOn (now (w .entry)) j r ⌝ }
-{
-    let wj = w[j];
-    round(j as u32, r, wj, wj ^ w[j + 4])
-}
-
-// Rounds j and j + 1.
-fn two(r: Words, w: &[u32; 68], j: usize) -> Words
-    requires { ⌜ j < 63 ⌝ }
-    ensures { λ s. ⌜ s ≡ roundOn (now (w .entry)) (j + 1) (roundOn (now (w .entry)) j r) ⌝ }
-{
-    step(step(r, w, j), w, j + 1)
-}
-
-// The first 16 rounds, the first 32, the first 48 and all 64. Each round is called by a literal number, so that its constant and its
-// Boolean functions are settled when this is compiled (two at a time, since the compiler leaves four as a call).
-fn rounds16(v: Words, w: &[u32; 68]) -> Words
-    ensures { λ s. ⌜ s ≡ rounds 16 v (now (w .entry)) ⌝ }
-{
-    let r = two(two(two(two(v, w, 0), w, 2), w, 4), w, 6);
-    two(two(two(two(r, w, 8), w, 10), w, 12), w, 14)
-}
-
-fn rounds32(v: Words, w: &[u32; 68]) -> Words
-    ensures { λ s. ⌜ s ≡ rounds 32 v (now (w .entry)) ⌝ }
-{
-    let r = two(two(two(two(rounds16(v, w), w, 16), w, 18), w, 20), w, 22);
-    two(two(two(two(r, w, 24), w, 26), w, 28), w, 30)
-}
-
-fn rounds48(v: Words, w: &[u32; 68]) -> Words
-    ensures { λ s. ⌜ s ≡ rounds 48 v (now (w .entry)) ⌝ }
-{
-    let r = two(two(two(two(rounds32(v, w), w, 32), w, 34), w, 36), w, 38);
-    two(two(two(two(r, w, 40), w, 42), w, 44), w, 46)
-}
-
-fn rounds64(v: Words, w: &[u32; 68]) -> Words
-    ensures { λ s. ⌜ s ≡ rounds 64 v (now (w .entry)) ⌝ }
-{
-    let r = two(two(two(two(rounds48(v, w), w, 48), w, 50), w, 52), w, 54);
-    two(two(two(two(r, w, 56), w, 58), w, 60), w, 62)
-}
-
-// Wj of a block, for j up to 15: four of its bytes.
+// Four bytes of a block: Wj, for j up to 15.
 fn block_word(block: &[u8], j: usize) -> u32
     requires { ⌜ (length (now block) ≡ 64) × (j < 16) ⌝ }
     ensures { λ r. ⌜ r ≡ numberOf (take 4 (drop (j * 4) (now (block .entry)))) ⌝ }
@@ -65,38 +19,84 @@ fn block_word(block: &[u8], j: usize) -> u32
     word::word_of(block[i], block[i + 1], block[i + 2], block[i + 3])
 }
 
-// Wj from the words before it, for j from 16 on.
-fn next_word(w: &[u32; 68], j: usize) -> u32
-    requires { ⌜ (length (now w) ≡ 68) × (16 ≤ j) × (j < 68) ⌝ }
-    ensures { λ r. ⌜ r ≡ nextWord (take j (now (w .entry))) ⌝ }
-{
-    p1(w[j - 16] ^ w[j - 9] ^ word::rotate(w[j - 3], 15)) ^ word::rotate(w[j - 13], 7) ^ w[j - 6]
-}
-
-// W0 .. W67 of a block that lies in a slice.
-fn words_of(block: &[u8]) -> [u32; 68]
+// The ring before round 0: W0 .. W15 of a block that lies in a slice.
+fn first_words(block: &[u8]) -> [u32; 16]
     requires { ⌜ length (now block) ≡ 64 ⌝ }
-    ensures { λ r. ⌜ r ≡ expansion (now (block .entry)) ⌝ }
+    ensures { λ r. ⌜ r ≡ split 16 (now (block .entry)) ⌝ }
 {
-    let mut w = [0u32; 68];
+    let mut w = [0u32; 16];
     let mut j = 0;
     while j < 16 {
         w[j] = block_word(block, j);
         j += 1;
     }
-    while j < 68 {
-        let next = next_word(&w, j);
-        w[j] = next;
-        j += 1;
-    }
     w
 }
 
-// W0 .. W67 of a block.
+// Wj from the sixteen words before it, for j from 16 on. In the ring Wk stands at place k mod 16.
+fn next_word(w: &[u32; 16], j: usize) -> u32
+    requires { ⌜ (16 ≤ j) × (j < 68) ⌝ }
+    ensures { λ r. ⌜ IsWord j (now (w .entry)) r ⌝ }
+{
+    let inner = p1(w[(j - 16) % 16] ^ w[(j - 9) % 16] ^ word::rotate(w[(j - 3) % 16], 15));
+    inner ^ word::rotate(w[(j - 13) % 16], 7) ^ w[(j - 6) % 16]
+}
+
+// The ring before round j, turned on to round j + 1: Wj+16 over Wj, the oldest. W67 is the last.
+fn turn(w: &mut [u32; 16], j: usize)
+    requires { ⌜ (length (now w) ≡ 16) × (j < 68) ⌝ }
+    ensures { λ _. ⌜ (length (now (w .exit)) ≡ 16) × Turned j (now (w .entry)) (now (w .exit)) ⌝ }
+{
+    if j < 52 {
+        let next = next_word(w, j + 16);
+        w[j % 16] = next;
+    }
+}
+
+// Round j. Its words are read before the ring is turned, for the new word lies over Wj.
+fn step(r: Words, w: &mut [u32; 16], j: usize) -> Words
+    requires { ⌜ (length (now w) ≡ 16) × (j < 64) ⌝ }
+    ensures { λ s. ⌜ (length (now (w .exit)) ≡ 16) × Goes j (j + 1) (now (w .entry)) r (now (w .exit)) s ⌝ }
+{
+    let wj = w[j % 16];
+    let w1 = wj ^ w[(j + 4) % 16];
+    turn(w, j);
+    round(j as u32, r, wj, w1)
+}
+
+// Rounds j to j + 3.
+fn four(r: Words, w: &mut [u32; 16], j: usize) -> Words
+    requires { ⌜ (length (now w) ≡ 16) × (j < 61) ⌝ }
+    ensures { λ s. ⌜ (length (now (w .exit)) ≡ 16) × Goes j (j + 4) (now (w .entry)) r (now (w .exit)) s ⌝ }
+{
+    step(step(step(step(r, w, j), w, j + 1), w, j + 2), w, j + 3)
+}
+
+// All 64 rounds. Each is called by a literal number, so that its constant, its Boolean functions and its places in the ring are settled
+// when this is compiled (four at a time, since the compiler leaves eight as a call).
+fn all_rounds(v: Words, w: &mut [u32; 16]) -> Words
+    requires { ⌜ length (now w) ≡ 16 ⌝ }
+    ensures { λ s. ⌜ Goes 0 64 (now (w .entry)) v (now (w .exit)) s ⌝ }
+{
+    let r16 = four(four(four(four(v, w, 0), w, 4), w, 8), w, 12);
+    let r32 = four(four(four(four(r16, w, 16), w, 20), w, 24), w, 28);
+    let r48 = four(four(four(four(r32, w, 32), w, 36), w, 40), w, 44);
+    four(four(four(four(r48, w, 48), w, 52), w, 56), w, 60)
+}
+
+// W0 .. W67 of a block, as they go through the ring: for who wants to see them. Folding holds sixteen.
 pub fn expanded(block: &[u8; 64]) -> [u32; 68]
     ensures { λ r. ⌜ r ≡ expansion (now (block .entry)) ⌝ }
 {
-    words_of(block)
+    let mut w = first_words(block);
+    let mut all = [0u32; 68];
+    let mut j = 0;
+    while j < 68 {
+        all[j] = w[j % 16];
+        turn(&mut w, j);
+        j += 1;
+    }
+    all
 }
 
 // CF of a block that lies in a slice.
@@ -104,8 +104,8 @@ fn compressed(v: Words, block: &[u8]) -> Words
     requires { ⌜ length (now block) ≡ 64 ⌝ }
     ensures { λ r. ⌜ r ≡ CF v (now (block .entry)) ⌝ }
 {
-    let w = words_of(block);
-    let r = rounds64(v, &w);
+    let mut w = first_words(block);
+    let r = all_rounds(v, &mut w);
     xored(r, v)
 }
 

@@ -1,12 +1,12 @@
-use Rattle.folding.proofs.Laid.{next-made}
+use Rattle.folding.proofs.Ring.{next-made}
 use borrow.Author.Needs.{needs}
 use Rattle.folding.proofs.next_word.Statement.{statement}
 use Rattle.folding.proofs.next_word.Tie as tie
 
 returns : tie.Need-returns
 returns c =
-    let at = c .before .before .before .before .before .before .before .before in
-    next-made (at .args .w .now) (at .args .j) _ _ _ (search needs) (search needs) (c .before .before .before .before .rotate .ensures) (c .before .before .before .p1 .ensures) (c .before .rotate2 .ensures)
+    let p1 = c .before .before .before in
+    next-made _ _ _ _ _ (search needs) (search needs) (p1 .before .rotate .ensures) (p1 .p1 .ensures) (c .before .rotate2 .ensures)
 
 pub next-word-spec : {M : Type 1} → statement M
 next-word-spec =
