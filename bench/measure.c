@@ -1,5 +1,7 @@
 /* Does one thing N times, so that the instructions of one can be counted as a difference. measure WHAT SIZE N:
  * plain, fold: N blocks folded by the plain C and by the proved library (SIZE is not looked at);
+ * race: N turns, each of SIZE blocks by the one and SIZE by the other, timed; what it prints is the median over the turns of the proved library's time in ten
+ *   thousandths of the plain C's (N is at most 1001);
  * update, update_in_place: N pieces of SIZE bytes into a state, by value and in place;
  * digest: N digests of SIZE bytes, each in one call;
  * code: N codes of SIZE bytes by a key of 32, each in one call;
@@ -31,6 +33,40 @@ static uint32_t fold(const char *what, size_t n) {
     else
         v = vs_fold(v, bytes, 64 * n);
     return v.a;
+}
+
+static uint64_t ticks(void) {
+    __builtin_ia32_lfence(); /* what stands before it is done */
+    return __builtin_ia32_rdtsc();
+}
+
+static uint64_t time_of(const char *what, size_t blocks) {
+    static volatile uint32_t seen; /* keeps the work from being dropped */
+    uint64_t begun = ticks();
+    seen = fold(what, blocks);
+    return ticks() - begun;
+}
+
+static uint32_t race(size_t blocks, size_t turns) {
+    static uint64_t ratios[1001];
+    if (turns == 0 || turns > sizeof ratios / sizeof *ratios || blocks > sizeof bytes / VS_BLOCK) {
+        all_accepted = false;
+        return 0;
+    }
+    for (size_t i = 0; i < turns; i++) {
+        uint64_t plain = 0, proved = 0;
+        if (i % 2) /* who begins changes from turn to turn */
+            plain = time_of("plain", blocks);
+        proved = time_of("fold", blocks);
+        if (i % 2 == 0)
+            plain = time_of("plain", blocks);
+        uint64_t ratio = proved * 10000 / plain;
+        size_t at = i;
+        for (; at > 0 && ratios[at - 1] > ratio; at--)
+            ratios[at] = ratios[at - 1];
+        ratios[at] = ratio;
+    }
+    return (uint32_t)ratios[turns / 2];
 }
 
 static uint32_t update(bool in_place, size_t size, size_t n) {
@@ -156,6 +192,8 @@ static uint32_t done(const char *what, size_t size, size_t n) {
         return deliver(is(what, "deliver"), size, n);
     if (is(what, "ready"))
         return ready(size, n);
+    if (is(what, "race"))
+        return race(size, n);
     if (is(what, "sheet_read") || is(what, "sheet_write"))
         return sheets(is(what, "sheet_write"), size, n);
     return fold(what, n);
