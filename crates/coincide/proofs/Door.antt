@@ -5,6 +5,7 @@ use mathlib.Core.Logic.{_↔_}
 use Prim.Native.Nat.{ℕ}
 use mathlib.Core.List.{List}
 use denote.Ref.{now}
+use Rattle.standard.specs.Standard.{folded}
 use Rattle.session.specs.declared.Session.{Session}
 use Rattle.hash.specs.declared.Hash.{Hash}
 use Rattle.writing.specs.Promises.{Row}
@@ -120,6 +121,9 @@ vs-sheet-read-in-place-rows κs a r e = reads (now (a .1 .0)) r (now (e .0))
 
 pub vs-fold : Coincide vs-fold′.ended vs-fold′.Reads.Post
 vs-fold κs a x y e f p q = p ∙ sym q
+
+pub vs-fold-means : Means vs-fold′.ended vs-fold′.Reads.Post (λ κs a r e. r ≡ folded (a .0) (now (a .1 .0)))
+vs-fold-means κs a r e = (λ p. p, λ p. p)
 
 pub vs-fresh : Coincide vs-fresh′.ended vs-fresh′.Reads.Post
 vs-fresh κs a x y e f p q = p ∙ sym q

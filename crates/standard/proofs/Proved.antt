@@ -9,6 +9,7 @@ use Rattle.standard.proofs.Page.{below-16, from-16, permutations, round
 pub proved : Promises
 proved =
     record {
+      symbols = λ x y. (refl, refl, refl);
       start = refl;
       below-16 = below-16;
       from-16 = from-16;

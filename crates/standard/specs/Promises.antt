@@ -7,12 +7,16 @@ use lib.Bits.{bitAnd, bitOr, bitXor}
 use Rattle.word.specs.Rotation.{_⊞_, _<<<_}
 use Rattle.word.specs.BigEndian.{numberOf, bigEndian}
 use Rattle.standard.specs.declared.Words.{Words}
-use Rattle.standard.specs.Standard.{_xor_, IV, T, FF, GG, P0, P1, expansion}
+use Rattle.standard.specs.Standard.{_and_, _or_, _xor_, IV, T, FF, GG, P0, P1, expansion}
 use Rattle.standard.specs.Standard.{round, roundOn, xorWords, CF, iterated, folded, rest, hashValue}
 
 -- eight words as a list
 abbrev pub eightWords : Words → List ℕ
 eightWords v = v .a ∷ v .b ∷ v .c ∷ v .d ∷ v .e ∷ v .f ∷ v .g ∷ v .h ∷ []
+
+-- document 003, 3: what the page's symbols are of two words
+abbrev pub Symbols : Type 0
+Symbols = (x y : ℕ) → (x and y ≡ bitAnd x y) × (x or y ≡ bitOr x y) × (x xor y ≡ bitXor x y)
 
 -- "the start words"
 abbrev pub Start : Type 0
@@ -106,6 +110,7 @@ abbrev pub Joining : Type 0
 Joining = (v : Words) (s t : List ℕ) → folded v (s ++ t) ≡ folded (folded v s) (rest s ++ t)
 
 pub record Promises : Type 0 where
+  pub symbols : Symbols
   pub start : Start
   pub below-16 : (j : ℕ) → j < 16 → Below16 j
   pub from-16 : (j : ℕ) → 16 ≤ j → From16 j
