@@ -33,7 +33,7 @@ fn first_words(block: &[u8]) -> [u32; 16]
     w
 }
 
-// Wj from the sixteen words before it, for j from 16 on. In the ring Wk stands at place k mod 16.
+// Wj from the sixteen words before it, for j from 16 to 67. In the ring Wk stands at place k mod 16.
 fn next_word(w: &[u32; 16], j: usize) -> u32
     requires { ⌜ (16 ≤ j) × (j < 68) ⌝ }
     ensures { λ r. ⌜ IsWord j (now (w .entry)) r ⌝ }
@@ -42,7 +42,7 @@ fn next_word(w: &[u32; 16], j: usize) -> u32
     inner ^ word::rotate(w[(j - 13) % 16], 7) ^ w[(j - 6) % 16]
 }
 
-// The ring before round j, turned on to round j + 1: Wj+16 over Wj, the oldest. W67 is the last.
+// The ring before round j, turned on to round j + 1: Wj+16 over Wj, the oldest. From j = 52 on it stays, for W67 is the last word.
 fn turn(w: &mut [u32; 16], j: usize)
     requires { ⌜ (length (now w) ≡ 16) × (j < 68) ⌝ }
     ensures { λ _. ⌜ (length (now (w .exit)) ≡ 16) × Turned j (now (w .entry)) (now (w .exit)) ⌝ }
@@ -84,7 +84,7 @@ fn all_rounds(v: Words, w: &mut [u32; 16]) -> Words
     four(four(four(four(r48, w, 48), w, 52), w, 56), w, 60)
 }
 
-// W0 .. W67 of a block, as they go through the ring: for who wants to see them. Folding holds sixteen.
+// W0 .. W67 of a block, as they go through the ring: for whoever wants to see them. Folding never holds more than sixteen.
 pub fn expanded(block: &[u8; 64]) -> [u32; 68]
     ensures { λ r. ⌜ r ≡ expansion (now (block .entry)) ⌝ }
 {
