@@ -1,7 +1,7 @@
 /* Does one thing N times, so that the instructions of one can be counted as a difference. measure WHAT SIZE N:
  * plain, fold: N blocks folded by the plain C and by the proved library (SIZE is not looked at);
- * race: N turns, each of SIZE blocks by the one and SIZE by the other, timed; what it prints is the median over the turns of the proved library's time in ten
- *   thousandths of the plain C's (N is at most 1001);
+ * race: N turns (at most 1001), each of SIZE blocks by the one and SIZE by the other, timed. What it prints says how long the proved library took: the median over the
+ *   turns, in ten thousandths of the plain C's time;
  * update, update_in_place: N pieces of SIZE bytes into a state, by value and in place;
  * digest: N digests of SIZE bytes, each in one call;
  * code: N codes of SIZE bytes by a key of 32, each in one call;
@@ -11,7 +11,7 @@
  * deliver, deliver_by_value: N pieces of SIZE bytes to a waiting note, in place and by value;
  * ready: N times the rank-ready light of 32 notes that are listed and SIZE that are open;
  * sheet_read, sheet_write: N times the longest sheet of SIZE notes, read in place and written.
- * What it prints keeps the work from being dropped. It is eight figures whatever they are, each made in the same number of steps. */
+ * What it prints keeps the work from being dropped. It is eight hexadecimal figures whatever they are, each made in the same number of steps. */
 #include "../host/plain_c.h"
 #include "../host/veenstipper.h"
 
@@ -49,24 +49,25 @@ static uint64_t time_of(const char *what, size_t blocks) {
 
 static uint32_t race(size_t blocks, size_t turns) {
     static uint64_t ratios[1001];
-    if (turns == 0 || turns > sizeof ratios / sizeof *ratios || blocks > sizeof bytes / VS_BLOCK) {
-        all_accepted = false;
-        return 0;
-    }
-    for (size_t i = 0; i < turns; i++) {
+    all_accepted = turns > 0 && turns <= sizeof ratios / sizeof *ratios && blocks > 0 && blocks <= sizeof bytes / VS_BLOCK;
+    for (size_t i = 0; all_accepted && i < turns; i++) {
         uint64_t plain = 0, proved = 0;
         if (i % 2) /* who begins changes from turn to turn */
             plain = time_of("plain", blocks);
         proved = time_of("fold", blocks);
         if (i % 2 == 0)
             plain = time_of("plain", blocks);
+        if (plain == 0 || proved == 0) { /* the counter stood still */
+            all_accepted = false;
+            break;
+        }
         uint64_t ratio = proved * 10000 / plain;
         size_t at = i;
         for (; at > 0 && ratios[at - 1] > ratio; at--)
             ratios[at] = ratios[at - 1];
         ratios[at] = ratio;
     }
-    return (uint32_t)ratios[turns / 2];
+    return all_accepted ? (uint32_t)ratios[turns / 2] : 0;
 }
 
 static uint32_t update(bool in_place, size_t size, size_t n) {
