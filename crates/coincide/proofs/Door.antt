@@ -1,4 +1,4 @@
--- `door`: any two results that meet a contract coincide. Assumes nothing.
+-- `door`: any two results that meet a contract coincide; and a contract is what is promised, of its own arguments. Assumes nothing.
 use mathlib.Core.Path.{_≡_, refl, sym, _∙_}
 use mathlib.Core.Bool.{true}
 use mathlib.Core.Logic.{_↔_}
@@ -15,6 +15,12 @@ use Rattle.writing.proofs.Proved.{proved as writing}
 use Rattle.coincide.proofs.Tells.{tells}
 use Rattle.coincide.proofs.Session.{lit-means, delivered}
 use Rattle.coincide.proofs.Reading.{SheetRow, reads, reads-whole}
+use Rattle.hash.specs.State.{fresh}
+use Rattle.hash.specs.Update.{update as updated}
+use Rattle.hash.specs.Digests.{finish as finished, digest, compareMessage, compareState}
+use Rattle.padding.specs.Writing.{written, bufferAfter}
+use Rattle.padded.specs.Viewing.{viewNumber, viewPlace}
+use Rattle.padded.specs.Removing.{removeNumber, removeLength}
 use Rattle.coincide.specs.Coincide.{Coincide, CoincideAt, Means, Says}
 use Rattle.hash.specs.declared.Digest.{Digest}
 use Rattle.mac.specs.Rows.{StartRow, UpdateRow, FinishRow, CodeRow, HeldRow}
@@ -230,3 +236,39 @@ vs-keyed-read-in-place κs a x y e f p q = (p .0 ∙ sym (q .0), p .1 ∙ sym (q
 pub vs-keyed-read-in-place-rows : Means vs-keyed-read-in-place′.ended (vs-keyed-read-in-place-says .claim)
     (λ κs a r e. Answered (now (a .1 .0)) (now (a .1 .1 .0)) r (now (e .0)))
 vs-keyed-read-in-place-rows κs a r e = keyed .answers (now (a .1 .0)) (now (a .1 .1 .0)) r (now (e .0))
+
+pub vs-update-in-place-means : Means vs-update-in-place′.ended (vs-update-in-place-says .claim) (λ κs a r e. (r ≡ updated (now (a .0)) (now (a .1 .0)) .number) × (now (e .0) ≡ updated (now (a .0)) (now (a .1 .0)) .state))
+vs-update-in-place-means κs a r e = (λ p. p, λ p. p)
+
+pub vs-fresh-means : Means vs-fresh′.ended vs-fresh′.Reads.Post (λ κs a r e. r ≡ fresh)
+vs-fresh-means κs a r e = (λ p. p, λ p. p)
+
+pub vs-update-means : Means vs-update′.ended vs-update′.Reads.Post (λ κs a r e. r ≡ updated (a .0) (now (a .1 .0)))
+vs-update-means κs a r e = (λ p. p, λ p. p)
+
+pub vs-finish-means : Means vs-finish′.ended vs-finish′.Reads.Post (λ κs a r e. r ≡ finished (a .0))
+vs-finish-means κs a r e = (λ p. p, λ p. p)
+
+pub vs-digest-of-means : Means vs-digest-of′.ended vs-digest-of′.Reads.Post (λ κs a r e. r ≡ digest (now (a .0)))
+vs-digest-of-means κs a r e = (λ p. p, λ p. p)
+
+pub vs-compare-message-means : Means vs-compare-message′.ended vs-compare-message′.Reads.Post (λ κs a r e. r ≡ compareMessage (now (a .0)) (now (a .1 .0)))
+vs-compare-message-means κs a r e = (λ p. p, λ p. p)
+
+pub vs-compare-state-means : Means vs-compare-state′.ended vs-compare-state′.Reads.Post (λ κs a r e. r ≡ compareState (a .0) (now (a .1 .0)))
+vs-compare-state-means κs a r e = (λ p. p, λ p. p)
+
+pub vs-pad-write-means : Means vs-pad-write′.ended vs-pad-write′.Reads.Post (λ κs a r e. (r ≡ written (now (a .0)) (now (a .1 .0))) × (now (e .1 .0) ≡ bufferAfter (now (a .0)) (now (a .1 .0))))
+vs-pad-write-means κs a r e = (λ p. p, λ p. p)
+
+pub vs-block-number-means : Means vs-block-number′.ended vs-block-number′.Reads.Post (λ κs a r e. r ≡ viewNumber (now (a .0)) (now (a .1 .0)) (a .1 .1 .0))
+vs-block-number-means κs a r e = (λ p. p, λ p. p)
+
+pub vs-block-part-means : Means vs-block-part′.ended vs-block-part′.Reads.Post (λ κs a r e. r ≡ viewPlace (now (a .0)) (now (a .1 .0)) (a .1 .1 .0))
+vs-block-part-means κs a r e = (λ p. p, λ p. p)
+
+pub vs-remove-number-means : Means vs-remove-number′.ended vs-remove-number′.Reads.Post (λ κs a r e. r ≡ removeNumber (now (a .0)))
+vs-remove-number-means κs a r e = (λ p. p, λ p. p)
+
+pub vs-remove-part-means : Means vs-remove-part′.ended vs-remove-part′.Reads.Post (λ κs a r e. r ≡ removeLength (now (a .0)))
+vs-remove-part-means κs a r e = (λ p. p, λ p. p)

@@ -6,6 +6,7 @@ use Prim.Native.Nat.{_≤_, _<_, _/_, _%_}
 use Rattle.rules.specs.Promises.{Obeyed}
 use Rattle.rules.proofs.Proved.{proved as rules}
 use Rattle.coincide.proofs.Tells.{tells}
+use Rattle.rules.specs.Rules.{zeroRecord}
 use Rattle.coincide.specs.Coincide.{Coincide, Means}
 use Rattle.rules.proofs.count_rule as count-rule′
 use Rattle.rules.proofs.is_note as is-note′
@@ -74,3 +75,6 @@ good-loop-means κs a r e = tells _ r (rules .loops _ _ _)
 
 pub obeys-means : Means obeys′.ended obeys′.Reads.Post (λ κs a r e. (r ≡ true) ↔ Obeyed (a .0))
 obeys-means κs a r e = tells _ r (rules .obeyed _)
+
+pub zero-record-means : Means zero-record′.ended zero-record′.Reads.Post (λ κs a r e. r ≡ zeroRecord)
+zero-record-means κs a r e = (λ p. p, λ p. p)

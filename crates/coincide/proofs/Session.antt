@@ -6,7 +6,7 @@ use mathlib.Core.Logic.{_↔_}
 use mathlib.Core.List.{List, []}
 use denote.Ref.{now}
 use Rattle.slots.specs.declared.Answer.{Answer}
-use Rattle.session.specs.Sessions.{emptySession}
+use Rattle.session.specs.Sessions.{emptySession, slotIndex}
 use Rattle.session.specs.Operations.{deliver}
 use Rattle.session.specs.Light.{ready}
 use Rattle.session.specs.Promises.{OpenCount, Row, AskRow}
@@ -81,3 +81,6 @@ lit-means s = rw (session .ready-by s) (session .lights (s .listed) (s .opened))
 
 pub Session-ready-means : Means Session-ready′.ended Session-ready′.Reads.Post (λ κs a r e. (r ≡ true) ↔ ((a .0 .listed ≡ a .0 .opened) × (a .0 .opened ≡ 0 → ⊥)))
 Session-ready-means κs a r e = tells _ r (lit-means (a .0))
+
+pub slot-index-means : Means slot-index′.ended slot-index′.Reads.Post (λ κs a r e. r ≡ slotIndex (a .0))
+slot-index-means κs a r e = (λ p. p, λ p. p)

@@ -1,9 +1,9 @@
--- `sheet`: any two results that meet a contract coincide; and that of reading is what is promised, of its own text. Assumes nothing.
+-- `sheet`: any two results that meet a contract coincide; and a contract is what is promised, of its own arguments. Assumes nothing.
 use mathlib.Core.Path.{_≡_, sym, _∙_}
 use denote.Ref.{now}
 use Rattle.session.specs.Sessions.{emptySession}
-use Rattle.sheet.specs.Judging.{entriesAt, withNotes}
-use Rattle.sheet.specs.Filling.{withListed}
+use Rattle.sheet.specs.Judging.{entriesAt, withNotes, headerAt, headerNumber, entryNumber, noteNumber, judged as verdictOf}
+use Rattle.sheet.specs.Filling.{withListed, start, listing}
 use Rattle.coincide.proofs.Reading.{SheetRow, reads-whole}
 use Rattle.coincide.specs.Coincide.{Coincide, Means}
 use Rattle.sheet.proofs.header_at as header-at′
@@ -49,3 +49,24 @@ read κs a x y e f p q = p ∙ sym q
 
 pub read-rows : Means read′.ended read′.Reads.Post (λ κs a r e. SheetRow (now (a .0)) (r .verdict) (r .session))
 read-rows κs a r e = reads-whole (now (a .0)) r
+
+pub header-at-means : Means header-at′.ended header-at′.Reads.Post (λ κs a r e. r ≡ headerAt (now (a .0)) (a .1 .0))
+header-at-means κs a r e = (λ p. p, λ p. p)
+
+pub header-number-means : Means header-number′.ended header-number′.Reads.Post (λ κs a r e. r ≡ headerNumber (a .0))
+header-number-means κs a r e = (λ p. p, λ p. p)
+
+pub entry-number-means : Means entry-number′.ended entry-number′.Reads.Post (λ κs a r e. r ≡ entryNumber (a .0) (a .1 .0))
+entry-number-means κs a r e = (λ p. p, λ p. p)
+
+pub note-number-means : Means note-number′.ended note-number′.Reads.Post (λ κs a r e. r ≡ noteNumber (a .0) (a .1 .0))
+note-number-means κs a r e = (λ p. p, λ p. p)
+
+pub judged-means : Means judged′.ended judged′.Reads.Post (λ κs a r e. r ≡ verdictOf (now (a .0)) (a .1 .0))
+judged-means κs a r e = (λ p. p, λ p. p)
+
+pub start-of-means : Means start-of′.ended start-of′.Reads.Post (λ κs a r e. r ≡ start (a .0) (a .1 .0))
+start-of-means κs a r e = (λ p. p, λ p. p)
+
+pub listing-at-means : Means listing-at′.ended listing-at′.Reads.Post (λ κs a r e. r ≡ listing (now (a .0)) (a .1 .0))
+listing-at-means κs a r e = (λ p. p, λ p. p)

@@ -1,4 +1,4 @@
--- `slots`: any two results that meet a contract coincide. Assumes nothing.
+-- `slots`: any two results that meet a contract coincide; and a contract is what is promised, of its own arguments. Assumes nothing.
 use mathlib.Core.Path.{_≡_, sym, _∙_}
 use mathlib.Core.Bool.{true}
 use mathlib.Core.Logic.{_↔_}
@@ -6,6 +6,9 @@ use Rattle.coincide.proofs.Tells.{tells}
 use Rattle.rules.specs.Promises.{Obeyed}
 use Rattle.slots.specs.Promises.{StateInOrder}
 use Rattle.slots.proofs.Proved.{proved as slots}
+use denote.Ref.{now}
+use Rattle.slots.specs.Slots.{emptySlot, waitingSlot}
+use Rattle.slots.specs.Delivery.{deliverAt, askAt}
 use Rattle.coincide.specs.Coincide.{Coincide, Means}
 use Rattle.slots.proofs.slot_in_order as slot-in-order′
 use Rattle.slots.proofs.empty_slot as empty-slot′
@@ -31,3 +34,15 @@ deliver-at κs a x y e f p q = p ∙ sym q
 
 pub ask-at : Coincide ask-at′.ended ask-at′.Reads.Post
 ask-at κs a x y e f p q = p ∙ sym q
+
+pub empty-slot-means : Means empty-slot′.ended empty-slot′.Reads.Post (λ κs a r e. r ≡ emptySlot)
+empty-slot-means κs a r e = (λ p. p, λ p. p)
+
+pub waiting-slot-means : Means waiting-slot′.ended waiting-slot′.Reads.Post (λ κs a r e. r ≡ waitingSlot (a .0))
+waiting-slot-means κs a r e = (λ p. p, λ p. p)
+
+pub deliver-at-means : Means deliver-at′.ended deliver-at′.Reads.Post (λ κs a r e. r ≡ deliverAt (a .0) (a .1 .0) (now (a .1 .1 .0)))
+deliver-at-means κs a r e = (λ p. p, λ p. p)
+
+pub ask-at-means : Means ask-at′.ended ask-at′.Reads.Post (λ κs a r e. r ≡ askAt (a .0) (a .1 .0))
+ask-at-means κs a r e = (λ p. p, λ p. p)

@@ -1,6 +1,7 @@
--- `standard`: any two results that meet a contract coincide. Assumes nothing.
-use mathlib.Core.Path.{sym, _∙_}
-use Rattle.coincide.specs.Coincide.{Coincide}
+-- `standard`: any two results that meet a contract coincide; and a contract is what is promised, of its own arguments. Assumes nothing.
+use mathlib.Core.Path.{sym, _∙_, _≡_}
+use Rattle.standard.specs.Standard.{P1, round as rounded, xorWords, hashValue}
+use Rattle.coincide.specs.Coincide.{Coincide, Means}
 use Rattle.standard.proofs.p1 as p1′
 use Rattle.standard.proofs.round as round′
 use Rattle.standard.proofs.xored as xored′
@@ -17,3 +18,15 @@ xored κs a x y e f p q = p ∙ sym q
 
 pub hash-value : Coincide hash-value′.ended hash-value′.Reads.Post
 hash-value κs a x y e f p q = p ∙ sym q
+
+pub p1-means : Means p1′.ended p1′.Reads.Post (λ κs a r e. r ≡ P1 (a .0))
+p1-means κs a r e = (λ p. p, λ p. p)
+
+pub round-means : Means round′.ended round′.Reads.Post (λ κs a r e. r ≡ rounded (a .0) (a .1 .0) (a .1 .1 .0) (a .1 .1 .1 .0))
+round-means κs a r e = (λ p. p, λ p. p)
+
+pub xored-means : Means xored′.ended xored′.Reads.Post (λ κs a r e. r ≡ xorWords (a .0) (a .1 .0))
+xored-means κs a r e = (λ p. p, λ p. p)
+
+pub hash-value-means : Means hash-value′.ended hash-value′.Reads.Post (λ κs a r e. r ≡ hashValue (a .0))
+hash-value-means κs a r e = (λ p. p, λ p. p)
