@@ -88,6 +88,7 @@ proved =
       from-any-state = from-any-state;
       final-of-any-state = final-of-any-state;
       piece-by-piece = piece-by-piece;
+      by-update = λ h pieces. (refl, refl);
       message-digest = message-digest;
       empty-piece = empty-piece;
       at-longest = at-longest;

@@ -88,6 +88,10 @@ PieceByPiece =
     × (afterAll h pieces ≡ update h (joined pieces) .state)
     × (inOrder (afterAll h pieces) ≡ true)
 
+-- what is said of pieces is said of this update, given one after the other
+abbrev pub ByUpdate : Type 0
+ByUpdate = (h : Hash) (pieces : List (List ℕ)) → (afterAll h pieces ≡ afterAllOf update h pieces) × (numbers h pieces ≡ numbersOf update h pieces)
+
 -- the standard's message digest: the padded message folded from the start words, and the words written out
 abbrev pub MessageDigest : Type 0
 MessageDigest = (message : List ℕ) → sm3 message ≡ hashValue (folded IV (padded message))
@@ -180,6 +184,7 @@ pub record Promises : Type 0 where
   pub from-any-state : FromAnyState
   pub final-of-any-state : FinalOfAnyState
   pub piece-by-piece : PieceByPiece
+  pub by-update : ByUpdate
   pub message-digest : MessageDigest
   pub empty-piece : EmptyPiece
   pub at-longest : AtLongest

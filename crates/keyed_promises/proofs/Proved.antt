@@ -17,7 +17,7 @@ use Rattle.sheet_promises.proofs.Sheets.{never-accepted}
 use Rattle.sheet_promises.proofs.Proved.{proved as sheets}
 use Rattle.keyed.specs.Keyed.{keyedOf}
 use Rattle.keyed.proofs.Judging.{covered-none, covered-all, verdict-refused, verdict-passed}
-use Rattle.keyed_promises.specs.Grammar.{EndsInMac, IsKeyedSheet}
+use Rattle.keyed_promises.specs.Grammar.{LineBegins, EndsInMac, IsKeyedSheet}
 use Rattle.keyed_promises.specs.Answers.{Answered, mac-refused, bad-sheet, is-read}
 use Rattle.keyed_promises.specs.Promises.{Promises, AcceptsOf}
 use Rattle.keyed_promises.proofs.MacLines.{mac-length, code-length}
@@ -65,8 +65,19 @@ size key text es k =
     )
 
 pub proved : Promises
+unfolding LineBegins
 proved =
     record {
+      mac-line = λ line code. (λ m. (m .characters, m .are-code, m .whole), λ (c, d, w). record { characters = c; are-code = d; whole = w });
+      begins = λ bytes. (λ b. b, λ b. b);
+      ends = λ text bytes code. (
+        λ m. (m .line, m .is-mac-line, m .line-begins, m .whole),
+        λ (l, i, b, w). record { line = l; is-mac-line = i; line-begins = b; whole = w },
+      );
+      keyed = λ key text es. (
+        λ k. (k .bytes, k .line, k .is-sheet, k .is-mac-line, k .whole),
+        λ (b, l, s, i, w). record { bytes = b; line = l; is-sheet = s; is-mac-line = i; whole = w },
+      );
       answers = answers;
       mac-numbers = mac-numbers;
       covers = λ text. covered-all text 0 refl;

@@ -1,19 +1,21 @@
 -- What the keyed reader promises of every key and text: 4/13.
 use Prim.Native.Nat.{ℕ, _-_, _≤_}
 use mathlib.Core.Path.{_≡_}
-use mathlib.Core.Logic.{_↔_}
-use mathlib.Core.List.{List, []}
+use mathlib.Core.Logic.{_↔_, _⊎_}
+use mathlib.Core.List.{List, [], _∷_, _++_}
 use lib.ListN.{length, take}
 use Rattle.refusal.specs.Table.{accepted}
 use Rattle.units.specs.Units.{longest}
 use Rattle.lines.specs.declared.Entry.{Entry}
+use Rattle.mac.specs.Hmac.{hmac}
 use Rattle.session.specs.declared.Session.{Session}
 use Rattle.sheet.specs.Judging.{sheetOf}
 use Rattle.sheet.specs.declared.Sheet.{Sheet}
 use Rattle.sheet.specs.declared.Verdict.{Verdict}
+use Rattle.sheet_promises.specs.Grammar.{IsDigest, IsSheet}
 use Rattle.sheet_promises.specs.Promises.{Lists}
 use Rattle.keyed.specs.Keyed.{macNumber, covered, keyedVerdict, keyedOf}
-use Rattle.keyed_promises.specs.Grammar.{EndsInMac, IsKeyedSheet}
+use Rattle.keyed_promises.specs.Grammar.{IsMacLine, LineBegins, EndsInMac, IsKeyedSheet}
 use Rattle.keyed_promises.specs.Answers.{MacRow, Answered}
 
 -- accepted exactly when the key has at most 2^61 - 1 bytes and the text is a keyed sheet: of any reader
@@ -24,6 +26,19 @@ AcceptsOf reading =
     ↔ ((length key ≤ longest) × ((es : List Entry) × IsKeyedSheet key text es))
 
 pub record Promises : Type 0 where
+  -- the words of the grammar, spelled out: "`MAC`, tab, 64 hex characters"; behind what a line begins; "ends with one more line"
+  pub mac-line :
+      (line code : List ℕ)
+      → IsMacLine line code
+      ↔ ((characters : List ℕ) × IsDigest characters code × (line ≡ 0x4d ∷ 0x41 ∷ 0x43 ∷ 9 ∷ (characters ++ (10 ∷ []))))
+  pub begins : (bytes : List ℕ) → LineBegins bytes ↔ ((bytes ≡ []) ⊎ ((front : List ℕ) × (bytes ≡ front ++ (10 ∷ []))))
+  pub ends :
+      (text bytes code : List ℕ)
+      → EndsInMac text bytes code ↔ ((line : List ℕ) × IsMacLine line code × LineBegins bytes × (text ≡ bytes ++ line))
+  pub keyed :
+      (key text : List ℕ) (es : List Entry)
+      → IsKeyedSheet key text es
+      ↔ ((bytes : List ℕ) × (line : List ℕ) × IsSheet bytes es × IsMacLine line (hmac key bytes) × (text ≡ bytes ++ line))
   -- what is answered and left is exactly what a row says
   pub answers :
       (key text : List ℕ) (verdict : Verdict) (session : Session)

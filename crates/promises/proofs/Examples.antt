@@ -1,6 +1,7 @@
 -- The examples that document 01 marks P hold. Each is worked out by the definitions.
 use Prim.{tt}
 use mathlib.Core.Path.{_≡_, refl}
+use mathlib.Core.Logic.{_↔_}
 use mathlib.Core.List.{List, [], _∷_}
 use mathlib.Core.Bool.{Bool, true, _&&_}
 use lib.Dec.{eqb}
@@ -27,3 +28,7 @@ hold (e ∷ es) h = (eqb-true _ _ (first (eqb (e .found) (e .printed)) (agree es
 pub examples-hold : Hold examples
 unfolding agree _⊞_ _<<<_ bigEndian numberFrom numberOf T FF GG P0 P1 split nextWord extended expansion W′ roundOn round rounds zeros padding padded blockCount noteRule isNote lengthRule loopRule entryNumber abc abcRound0 loopNumber
 examples-hold = hold examples refl
+
+pub each-holds : (e : Example) (es : List Example) → Hold (e ∷ es) ↔ ((e .found ≡ e .printed) × Hold es)
+unfolding Hold
+each-holds e es = (λ p. p, λ p. p)

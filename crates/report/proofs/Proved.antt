@@ -4,7 +4,7 @@ use Rattle.decimal.specs.Writing.{decimal, figuresBefore}
 use Rattle.texts.proofs.Parts.{said-bytes}
 use Rattle.report.specs.Report.{word, refusedWord, noteLine, refusedLine, linesTo, report}
 use Rattle.report.specs.Promises.{Promises}
-use Rattle.report.proofs.Lines.{listed, not-listed, report-short}
+use Rattle.report.proofs.Lines.{listed, not-listed, report-short, word-shut}
 
 pub proved : Promises
 unfolding word refusedWord noteLine refusedLine linesTo report decimal figuresBefore
@@ -13,6 +13,7 @@ proved =
       word-waiting = refl;
       word-open = refl;
       word-shut = refl;
+      word-other = word-shut;
       open-line = refl;
       shut-line = refl;
       waiting-line = refl;

@@ -19,6 +19,8 @@ pub record Promises : Type 0 where
   pub word-waiting : word 1 ≡ 0x77 ∷ 0x61 ∷ 0x69 ∷ 0x74 ∷ 0x69 ∷ 0x6e ∷ 0x67 ∷ []
   pub word-open : word 2 ≡ 0x6f ∷ 0x70 ∷ 0x65 ∷ 0x6e ∷ []
   pub word-shut : word 3 ≡ 0x73 ∷ 0x68 ∷ 0x75 ∷ 0x74 ∷ []
+  -- and for any other, which no answer of a call has
+  pub word-other : (status : ℕ) → (status ≡ 1 → ⊥) → (status ≡ 2 → ⊥) → word status ≡ 0x73 ∷ 0x68 ∷ 0x75 ∷ 0x74 ∷ []
   -- note 5 open with 8820 bytes: `5`, `open`, `8820`, a tab between fields
   pub open-line :
       noteLine 5 (record { number = 0; status = 2; taken = 8820 })

@@ -81,5 +81,6 @@ proved =
       judges-bad = refusals;
       reads-header = header-read;
       reads-line = line-read;
+      entries = λ text es s. sym (sheet-entries text 0 es s);
       one-reading = λ text es others s t. sym (sheet-entries text 0 es s) ∙ sheet-entries text 0 others t;
     }

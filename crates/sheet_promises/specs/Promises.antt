@@ -9,7 +9,7 @@ use Rattle.standard.specs.Standard.{IV}
 use Rattle.session.specs.Sessions.{slotOf}
 use Rattle.session.specs.declared.Session.{Session}
 use Rattle.slots.specs.declared.Slot.{Slot}
-use Rattle.sheet.specs.Judging.{headerAt, judged, sheetOf}
+use Rattle.sheet.specs.Judging.{headerAt, judged, entriesAt, sheetOf}
 use Rattle.sheet.specs.declared.Sheet.{Sheet}
 use Rattle.lines.specs.Lines.{noteLine}
 use Rattle.lines.specs.declared.Entry.{Entry}
@@ -85,5 +85,9 @@ pub record Promises : Type 0 where
   pub reads-line :
       (text front rest : List ℕ) (at : ℕ) (e : Entry) → IsLine front e → drop at text ≡ front ++ rest
       → noteLine text at ≡ record { stop = record { wanted = 0; at = at + length front }; entry = e }
+  -- a sheet's entries are those that the reader's steps read, line by line (`sheet.of-filling`, `lines.line-good`)
+  pub entries :
+      (text : List ℕ) (es : List Entry) → IsSheet text es
+      → es ≡ entriesAt (headerAt text 0 .value) text (headerAt text 0 .stop .at)
   -- a sheet's lines are what they are
   pub one-reading : (text : List ℕ) (es others : List Entry) → IsSheet text es → IsSheet text others → es ≡ others

@@ -4,8 +4,9 @@ use mathlib.Core.Path.{refl}
 use native.Mathlib.Omega.{arith}
 use borrow.Author.Tests.{lt-ltb, le-ltb}
 use Rattle.word.specs.BigEndian.{bigEndian}
-use Rattle.standard.specs.Standard.{T, FF, GG, P0, P1, W′, round, roundOn, xorWords, iterated, folded, rest, hashValue}
-use Rattle.standard.specs.Promises.{Below16, From16, Permutations, Round, RoundWords, Xored, NoBlock, Blocks, Value}
+use Rattle.standard.proofs.Rounds.{rounds-next}
+use Rattle.standard.specs.Standard.{T, FF, GG, P0, P1, W′, round, roundOn, rounds, xorWords, iterated, folded, rest, hashValue}
+use Rattle.standard.specs.Promises.{Below16, From16, Permutations, Round, RoundWords, Primed, Rounds, Xored, NoBlock, Blocks, Value}
 
 pub below-16 : (j : ℕ) → j < 16 → Below16 j
 unfolding T FF GG
@@ -26,6 +27,14 @@ round-is j r Wj W′j SS1 TT1 TT2 e f g = rw (f, g, e)
 pub round-words : RoundWords
 unfolding roundOn W′
 round-words B j r = refl
+
+pub primed : Primed
+unfolding W′
+primed w j = refl
+
+pub rounds-are : Rounds
+unfolding rounds
+rounds-are v w j = (refl, rounds-next j v w)
 
 pub xored : Xored
 unfolding xorWords

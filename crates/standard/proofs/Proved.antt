@@ -4,7 +4,7 @@ use Rattle.standard.specs.Promises.{Promises}
 use Rattle.standard.proofs.Expansion.{length-expansion, expansion-block, expansion-next}
 use Rattle.standard.proofs.Rounds.{traced}
 use Rattle.standard.proofs.Folding.{iterated-next, folded-join, length-hashValue}
-use Rattle.standard.proofs.Page.{below-16, from-16, permutations, round-is, round-words, xored, no-block, blocks, value}
+use Rattle.standard.proofs.Page.{below-16, from-16, permutations, round-is, round-words, primed, rounds-are, xored, no-block, blocks, value}
 
 pub proved : Promises
 proved =
@@ -19,6 +19,8 @@ proved =
       recurrence = expansion-next;
       round-is = round-is;
       round-words = round-words;
+      primed = primed;
+      rounds-are = rounds-are;
       xored = xored;
       traced = traced;
       iteration = iterated-next;

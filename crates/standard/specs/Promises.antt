@@ -8,7 +8,7 @@ use Rattle.word.specs.Rotation.{_⊞_, _<<<_}
 use Rattle.word.specs.BigEndian.{numberOf, bigEndian}
 use Rattle.standard.specs.declared.Words.{Words}
 use Rattle.standard.specs.Standard.{_and_, _or_, _xor_, IV, T, FF, GG, P0, P1, expansion}
-use Rattle.standard.specs.Standard.{round, roundOn, xorWords, CF, iterated, folded, rest, hashValue}
+use Rattle.standard.specs.Standard.{W′, round, roundOn, rounds, xorWords, CF, iterated, folded, rest, hashValue}
 
 -- eight words as a list
 abbrev pub eightWords : Words → List ℕ
@@ -69,6 +69,14 @@ Round =
 abbrev pub RoundWords : Type 0
 RoundWords = (B : List ℕ) (j : ℕ) (r : Words) → roundOn (expansion B) j r ≡ round j r (W B j) (bitXor (W B j) (W B (j + 4)))
 
+-- W'j = Wj xor Wj+4, of whatever words
+abbrev pub Primed : Type 0
+Primed = (w : List ℕ) (j : ℕ) → W′ w j ≡ bitXor (getD w j 0) (getD w (j + 4) 0)
+
+-- the registers before round 0, and after round j
+abbrev pub Rounds : Type 0
+Rounds = (v : Words) (w : List ℕ) (j : ℕ) → (rounds 0 v w ≡ v) × (rounds (j + 1) v w ≡ roundOn w j (rounds j v w))
+
 -- "the eight words are xored with those before the block", word by word
 abbrev pub Xored : Type 0
 Xored =
@@ -120,6 +128,8 @@ pub record Promises : Type 0 where
   pub recurrence : Recurrence
   pub round-is : Round
   pub round-words : RoundWords
+  pub primed : Primed
+  pub rounds-are : Rounds
   pub xored : Xored
   pub traced : Traced
   pub iteration : Iteration
