@@ -90,7 +90,8 @@ PieceByPiece =
 
 -- what is said of pieces is said of this update, given one after the other
 abbrev pub ByUpdate : Type 0
-ByUpdate = (h : Hash) (pieces : List (List ℕ)) → (afterAll h pieces ≡ afterAllOf update h pieces) × (numbers h pieces ≡ numbersOf update h pieces)
+ByUpdate =
+    (h : Hash) (pieces : List (List ℕ)) → (afterAll h pieces ≡ afterAllOf update h pieces) × (numbers h pieces ≡ numbersOf update h pieces)
 
 -- the standard's message digest: the padded message folded from the start words, and the words written out
 abbrev pub MessageDigest : Type 0
