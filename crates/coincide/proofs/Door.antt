@@ -1,7 +1,7 @@
 -- `door`: any two results that meet a contract coincide; and a contract is what is promised, of its own arguments. Assumes nothing.
 use mathlib.Core.Path.{_≡_, refl, sym, _∙_}
 use mathlib.Core.Bool.{true}
-use mathlib.Core.Logic.{_↔_}
+use mathlib.Core.Logic.{_↔_, Iff·rfl}
 use Prim.Native.Nat.{ℕ}
 use mathlib.Core.List.{List}
 use denote.Ref.{now}
@@ -21,7 +21,7 @@ use Rattle.hash.specs.Digests.{finish as finished, digest, compareMessage, comp
 use Rattle.padding.specs.Writing.{written, bufferAfter}
 use Rattle.padded.specs.Viewing.{viewNumber, viewPlace}
 use Rattle.padded.specs.Removing.{removeNumber, removeLength}
-use Rattle.coincide.specs.Coincide.{Coincide, CoincideAt, Means, Says}
+use Rattle.coincide.specs.Coincide.{Coincide, CoincideAt, Means, Says, Answers}
 use Rattle.hash.specs.declared.Digest.{Digest}
 use Rattle.mac.specs.Rows.{StartRow, UpdateRow, FinishRow, CodeRow, HeldRow}
 use Rattle.mac.specs.declared.Code.{Code}
@@ -85,7 +85,8 @@ pub vs-ready : Coincide vs-ready′.ended (vs-ready-says .claim)
 vs-ready κs a x y e f p q = p ∙ sym q
 
 -- what meets the contract is that this session's counts are equal and not zero
-pub vs-ready-means : Means vs-ready′.ended (vs-ready-says .claim) (λ κs a r e. (r ≡ true) ↔ ((now (a .0) .listed ≡ now (a .0) .opened) × (now (a .0) .opened ≡ 0 → ⊥)))
+pub vs-ready-means : Means vs-ready′.ended (vs-ready-says .claim)
+    (λ κs a r e. (r ≡ true) ↔ ((now (a .0) .listed ≡ now (a .0) .opened) × (now (a .0) .opened ≡ 0 → ⊥)))
 vs-ready-means κs a r e = tells _ r (lit-means (now (a .0)))
 
 abbrev pub vs-sheet-read-in-place-says : Says vs-sheet-read-in-place′.ended (λ M. vs-sheet-read-in-place′.clauses {M = M})
@@ -101,7 +102,8 @@ pub vs-sheet-write : CoincideAt vs-sheet-write′.ended (List ℕ) (λ κs e. no
 vs-sheet-write κs a x y e f p q = (p .0 ∙ sym (q .0), p .1 ∙ sym (q .1))
 
 -- what meets the contract is the row of the table for writing that holds of this session and this buffer
-pub vs-sheet-write-rows : Means vs-sheet-write′.ended (vs-sheet-write-says .claim) (λ κs a r e. Row (now (a .0)) (now (a .1 .0)) r (now (e .1 .0)))
+pub vs-sheet-write-rows : Means vs-sheet-write′.ended (vs-sheet-write-says .claim)
+    (λ κs a r e. Row (now (a .0)) (now (a .1 .0)) r (now (e .1 .0)))
 vs-sheet-write-rows κs a r e = writing .table (now (a .0)) (now (a .1 .0)) r (now (e .1 .0))
 
 -- and so of asking and of a delivery, with this session, note and piece
@@ -122,47 +124,15 @@ vs-deliver-in-place-rows κs a r e = delivered (now (a .0)) (a .1 .0) (now (a .1
 pub vs-sheet-read-rows : Means vs-sheet-read′.ended vs-sheet-read′.Reads.Post (λ κs a r e. SheetRow (now (a .0)) (r .verdict) (r .session))
 vs-sheet-read-rows κs a r e = reads-whole (now (a .0)) r
 
-pub vs-sheet-read-in-place-rows : Means vs-sheet-read-in-place′.ended (vs-sheet-read-in-place-says .claim) (λ κs a r e. SheetRow (now (a .1 .0)) r (now (e .0)))
+pub vs-sheet-read-in-place-rows : Means vs-sheet-read-in-place′.ended (vs-sheet-read-in-place-says .claim)
+    (λ κs a r e. SheetRow (now (a .1 .0)) r (now (e .0)))
 vs-sheet-read-in-place-rows κs a r e = reads (now (a .1 .0)) r (now (e .0))
 
-pub vs-fold : Coincide vs-fold′.ended vs-fold′.Reads.Post
-vs-fold κs a x y e f p q = p ∙ sym q
-
-pub vs-fold-means : Means vs-fold′.ended vs-fold′.Reads.Post (λ κs a r e. r ≡ folded (a .0) (now (a .1 .0)))
-vs-fold-means κs a r e = (λ p. p, λ p. p)
-
-pub vs-fresh : Coincide vs-fresh′.ended vs-fresh′.Reads.Post
-vs-fresh κs a x y e f p q = p ∙ sym q
-
-pub vs-update : Coincide vs-update′.ended vs-update′.Reads.Post
-vs-update κs a x y e f p q = p ∙ sym q
-
-pub vs-finish : Coincide vs-finish′.ended vs-finish′.Reads.Post
-vs-finish κs a x y e f p q = p ∙ sym q
-
-pub vs-digest-of : Coincide vs-digest-of′.ended vs-digest-of′.Reads.Post
-vs-digest-of κs a x y e f p q = p ∙ sym q
-
-pub vs-compare-message : Coincide vs-compare-message′.ended vs-compare-message′.Reads.Post
-vs-compare-message κs a x y e f p q = p ∙ sym q
-
-pub vs-compare-state : Coincide vs-compare-state′.ended vs-compare-state′.Reads.Post
-vs-compare-state κs a x y e f p q = p ∙ sym q
+pub vs-fold-means : Answers vs-fold′.ended vs-fold′.Reads.Post (λ κs a. folded (a .0) (now (a .1 .0)))
+vs-fold-means κs a r e = Iff·rfl
 
 pub vs-pad-write : CoincideAt vs-pad-write′.ended (List ℕ) (λ κs e. now (e .1 .0)) vs-pad-write′.Reads.Post
 vs-pad-write κs a x y e f p q = (p .0 ∙ sym (q .0), p .1 ∙ sym (q .1))
-
-pub vs-block-number : Coincide vs-block-number′.ended vs-block-number′.Reads.Post
-vs-block-number κs a x y e f p q = p ∙ sym q
-
-pub vs-block-part : Coincide vs-block-part′.ended vs-block-part′.Reads.Post
-vs-block-part κs a x y e f p q = p ∙ sym q
-
-pub vs-remove-number : Coincide vs-remove-number′.ended vs-remove-number′.Reads.Post
-vs-remove-number κs a x y e f p q = p ∙ sym q
-
-pub vs-remove-part : Coincide vs-remove-part′.ended vs-remove-part′.Reads.Post
-vs-remove-part κs a x y e f p q = p ∙ sym q
 
 pub vs-sheet-read : Coincide vs-sheet-read′.ended vs-sheet-read′.Reads.Post
 vs-sheet-read κs a x y e f p q = p ∙ sym q
@@ -211,7 +181,8 @@ vs-code-of-rows κs a r e = codes .tables .codes (now (a .0)) (now (a .1 .0)) r
 pub vs-compare-code : Coincide vs-compare-code′.ended vs-compare-code′.Reads.Post
 vs-compare-code κs a x y e f p q = p ∙ sym q
 
-pub vs-compare-code-rows : Means vs-compare-code′.ended vs-compare-code′.Reads.Post (λ κs a r e. (d : Digest) × FinishRow (a .0) d × HeldRow d (now (a .1 .0)) r)
+pub vs-compare-code-rows : Means vs-compare-code′.ended vs-compare-code′.Reads.Post
+    (λ κs a r e. (d : Digest) × FinishRow (a .0) d × HeldRow d (now (a .1 .0)) r)
 vs-compare-code-rows κs a r e = codes .tables .compares-state (a .0) (now (a .1 .0)) r
 
 pub vs-compare-code-of : Coincide vs-compare-code-of′.ended vs-compare-code-of′.Reads.Post
@@ -224,7 +195,8 @@ vs-compare-code-of-rows κs a r e = codes .tables .compares-message (now (a .0))
 pub vs-keyed-read : Coincide vs-keyed-read′.ended vs-keyed-read′.Reads.Post
 vs-keyed-read κs a x y e f p q = p ∙ sym q
 
-pub vs-keyed-read-rows : Means vs-keyed-read′.ended vs-keyed-read′.Reads.Post (λ κs a r e. Answered (now (a .0)) (now (a .1 .0)) (r .verdict) (r .session))
+pub vs-keyed-read-rows : Means vs-keyed-read′.ended vs-keyed-read′.Reads.Post
+    (λ κs a r e. Answered (now (a .0)) (now (a .1 .0)) (r .verdict) (r .session))
 vs-keyed-read-rows κs a r e = keyed-whole (now (a .0)) (now (a .1 .0)) r
 
 abbrev pub vs-keyed-read-in-place-says : Says vs-keyed-read-in-place′.ended (λ M. vs-keyed-read-in-place′.clauses {M = M})
@@ -237,38 +209,43 @@ pub vs-keyed-read-in-place-rows : Means vs-keyed-read-in-place′.ended (vs-keye
     (λ κs a r e. Answered (now (a .1 .0)) (now (a .1 .1 .0)) r (now (e .0)))
 vs-keyed-read-in-place-rows κs a r e = keyed .answers (now (a .1 .0)) (now (a .1 .1 .0)) r (now (e .0))
 
-pub vs-update-in-place-means : Means vs-update-in-place′.ended (vs-update-in-place-says .claim) (λ κs a r e. (r ≡ updated (now (a .0)) (now (a .1 .0)) .number) × (now (e .0) ≡ updated (now (a .0)) (now (a .1 .0)) .state))
-vs-update-in-place-means κs a r e = (λ p. p, λ p. p)
+pub vs-update-in-place-means : Means vs-update-in-place′.ended (vs-update-in-place-says .claim)
+    (λ κs a r e. (r ≡ updated (now (a .0)) (now (a .1 .0)) .number) × (now (e .0) ≡ updated (now (a .0)) (now (a .1 .0)) .state))
+vs-update-in-place-means κs a r e = Iff·rfl
 
-pub vs-fresh-means : Means vs-fresh′.ended vs-fresh′.Reads.Post (λ κs a r e. r ≡ fresh)
-vs-fresh-means κs a r e = (λ p. p, λ p. p)
+pub vs-fresh-means : Answers vs-fresh′.ended vs-fresh′.Reads.Post (λ κs a. fresh)
+vs-fresh-means κs a r e = Iff·rfl
 
-pub vs-update-means : Means vs-update′.ended vs-update′.Reads.Post (λ κs a r e. r ≡ updated (a .0) (now (a .1 .0)))
-vs-update-means κs a r e = (λ p. p, λ p. p)
+pub vs-update-means : Answers vs-update′.ended vs-update′.Reads.Post (λ κs a. updated (a .0) (now (a .1 .0)))
+vs-update-means κs a r e = Iff·rfl
 
-pub vs-finish-means : Means vs-finish′.ended vs-finish′.Reads.Post (λ κs a r e. r ≡ finished (a .0))
-vs-finish-means κs a r e = (λ p. p, λ p. p)
+pub vs-finish-means : Answers vs-finish′.ended vs-finish′.Reads.Post (λ κs a. finished (a .0))
+vs-finish-means κs a r e = Iff·rfl
 
-pub vs-digest-of-means : Means vs-digest-of′.ended vs-digest-of′.Reads.Post (λ κs a r e. r ≡ digest (now (a .0)))
-vs-digest-of-means κs a r e = (λ p. p, λ p. p)
+pub vs-digest-of-means : Answers vs-digest-of′.ended vs-digest-of′.Reads.Post (λ κs a. digest (now (a .0)))
+vs-digest-of-means κs a r e = Iff·rfl
 
-pub vs-compare-message-means : Means vs-compare-message′.ended vs-compare-message′.Reads.Post (λ κs a r e. r ≡ compareMessage (now (a .0)) (now (a .1 .0)))
-vs-compare-message-means κs a r e = (λ p. p, λ p. p)
+pub vs-compare-message-means : Answers vs-compare-message′.ended vs-compare-message′.Reads.Post
+    (λ κs a. compareMessage (now (a .0)) (now (a .1 .0)))
+vs-compare-message-means κs a r e = Iff·rfl
 
-pub vs-compare-state-means : Means vs-compare-state′.ended vs-compare-state′.Reads.Post (λ κs a r e. r ≡ compareState (a .0) (now (a .1 .0)))
-vs-compare-state-means κs a r e = (λ p. p, λ p. p)
+pub vs-compare-state-means : Answers vs-compare-state′.ended vs-compare-state′.Reads.Post (λ κs a. compareState (a .0) (now (a .1 .0)))
+vs-compare-state-means κs a r e = Iff·rfl
 
-pub vs-pad-write-means : Means vs-pad-write′.ended vs-pad-write′.Reads.Post (λ κs a r e. (r ≡ written (now (a .0)) (now (a .1 .0))) × (now (e .1 .0) ≡ bufferAfter (now (a .0)) (now (a .1 .0))))
-vs-pad-write-means κs a r e = (λ p. p, λ p. p)
+pub vs-pad-write-means : Means vs-pad-write′.ended vs-pad-write′.Reads.Post
+    (λ κs a r e. (r ≡ written (now (a .0)) (now (a .1 .0))) × (now (e .1 .0) ≡ bufferAfter (now (a .0)) (now (a .1 .0))))
+vs-pad-write-means κs a r e = Iff·rfl
 
-pub vs-block-number-means : Means vs-block-number′.ended vs-block-number′.Reads.Post (λ κs a r e. r ≡ viewNumber (now (a .0)) (now (a .1 .0)) (a .1 .1 .0))
-vs-block-number-means κs a r e = (λ p. p, λ p. p)
+pub vs-block-number-means : Answers vs-block-number′.ended vs-block-number′.Reads.Post
+    (λ κs a. viewNumber (now (a .0)) (now (a .1 .0)) (a .1 .1 .0))
+vs-block-number-means κs a r e = Iff·rfl
 
-pub vs-block-part-means : Means vs-block-part′.ended vs-block-part′.Reads.Post (λ κs a r e. r ≡ viewPlace (now (a .0)) (now (a .1 .0)) (a .1 .1 .0))
-vs-block-part-means κs a r e = (λ p. p, λ p. p)
+pub vs-block-part-means : Answers vs-block-part′.ended vs-block-part′.Reads.Post
+    (λ κs a. viewPlace (now (a .0)) (now (a .1 .0)) (a .1 .1 .0))
+vs-block-part-means κs a r e = Iff·rfl
 
-pub vs-remove-number-means : Means vs-remove-number′.ended vs-remove-number′.Reads.Post (λ κs a r e. r ≡ removeNumber (now (a .0)))
-vs-remove-number-means κs a r e = (λ p. p, λ p. p)
+pub vs-remove-number-means : Answers vs-remove-number′.ended vs-remove-number′.Reads.Post (λ κs a. removeNumber (now (a .0)))
+vs-remove-number-means κs a r e = Iff·rfl
 
-pub vs-remove-part-means : Means vs-remove-part′.ended vs-remove-part′.Reads.Post (λ κs a r e. r ≡ removeLength (now (a .0)))
-vs-remove-part-means κs a r e = (λ p. p, λ p. p)
+pub vs-remove-part-means : Answers vs-remove-part′.ended vs-remove-part′.Reads.Post (λ κs a. removeLength (now (a .0)))
+vs-remove-part-means κs a r e = Iff·rfl

@@ -1,5 +1,6 @@
 -- `hash_in_place`: any two results that meet a contract coincide; and a contract is what is promised, of its own arguments. Assumes nothing.
 use mathlib.Core.Path.{refl, sym, _∙_, _≡_}
+use mathlib.Core.Logic.{Iff·rfl}
 use denote.Ref.{now}
 use Rattle.hash_in_place.specs.declared.Card.{Card}
 use Rattle.hash.specs.declared.Hash.{Hash}
@@ -20,8 +21,10 @@ Card-feed-says = record { claim = _; stated = λ M 𝓤 H A mem run κs a g r e.
 pub Card-feed : CoincideAt Card-feed′.ended Card (λ κs e. now (e .0)) (Card-feed-says .claim)
 Card-feed κs a x y e f p q = (p .0 ∙ sym (q .0), p .1 ∙ sym (q .1))
 
-pub update-means : Means update′.ended (update-says .claim) (λ κs a r e. (r ≡ updated (now (a .0)) (now (a .1 .0)) .number) × (now (e .0) ≡ updated (now (a .0)) (now (a .1 .0)) .state))
-update-means κs a r e = (λ p. p, λ p. p)
+pub update-means : Means update′.ended (update-says .claim)
+    (λ κs a r e. (r ≡ updated (now (a .0)) (now (a .1 .0)) .number) × (now (e .0) ≡ updated (now (a .0)) (now (a .1 .0)) .state))
+update-means κs a r e = Iff·rfl
 
-pub Card-feed-means : Means Card-feed′.ended (Card-feed-says .claim) (λ κs a r e. (r ≡ updated (now (a .0) .state) (now (a .1 .0)) .number) × (now (e .0) ≡ record { state = updated (now (a .0) .state) (now (a .1 .0)) .state }))
-Card-feed-means κs a r e = (λ p. p, λ p. p)
+pub Card-feed-means : Means Card-feed′.ended (Card-feed-says .claim)
+    (λ κs a r e. (r ≡ updated (now (a .0) .state) (now (a .1 .0)) .number) × (now (e .0) ≡ record { state = updated (now (a .0) .state) (now (a .1 .0)) .state }))
+Card-feed-means κs a r e = Iff·rfl

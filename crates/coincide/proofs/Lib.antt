@@ -1,3 +1,4 @@
+pub mod Answers
 pub mod Tells
 pub mod Reading
 pub mod Coding

@@ -43,7 +43,8 @@ Code-finish-rows κs a r e = codes .tables .finishes (a .0) r
 pub Code-matches : Coincide Code-matches′.ended Code-matches′.Reads.Post
 Code-matches κs a x y e f p q = p ∙ sym q
 
-pub Code-matches-rows : Means Code-matches′.ended Code-matches′.Reads.Post (λ κs a r e. (d : Digest) × FinishRow (a .0) d × HeldRow d (now (a .1 .0)) r)
+pub Code-matches-rows : Means Code-matches′.ended Code-matches′.Reads.Post
+    (λ κs a r e. (d : Digest) × FinishRow (a .0) d × HeldRow d (now (a .1 .0)) r)
 Code-matches-rows κs a r e = codes .tables .compares-state (a .0) (now (a .1 .0)) r
 
 pub code-of : Coincide code-of′.ended code-of′.Reads.Post

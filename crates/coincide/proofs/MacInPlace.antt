@@ -13,5 +13,6 @@ update-says = record { claim = _; stated = λ M 𝓤 H A mem run κs a g r e. re
 pub update : CoincideAt update′.ended Code (λ κs e. now (e .0)) (update-says .claim)
 update κs a x y e f p q = (p .0 ∙ sym (q .0), p .1 ∙ sym (q .1))
 
-pub update-rows : Means update′.ended (update-says .claim) (λ κs a r e. UpdateRow (now (a .0)) (now (a .1 .0)) (record { number = r; state = now (e .0) }))
+pub update-rows : Means update′.ended (update-says .claim)
+    (λ κs a r e. UpdateRow (now (a .0)) (now (a .1 .0)) (record { number = r; state = now (e .0) }))
 update-rows κs a r e = taken (now (a .0)) (now (a .1 .0)) r (now (e .0))

@@ -1,13 +1,13 @@
 -- `rules`: any two results that meet a contract coincide; and a contract is what is promised, of its own arguments. Assumes nothing.
 use mathlib.Core.Path.{_≡_, sym, _∙_}
 use mathlib.Core.Bool.{true}
-use mathlib.Core.Logic.{_↔_}
+use mathlib.Core.Logic.{_↔_, Iff·rfl}
 use Prim.Native.Nat.{_≤_, _<_, _/_, _%_}
 use Rattle.rules.specs.Promises.{Obeyed}
 use Rattle.rules.proofs.Proved.{proved as rules}
 use Rattle.coincide.proofs.Tells.{tells}
 use Rattle.rules.specs.Rules.{zeroRecord}
-use Rattle.coincide.specs.Coincide.{Coincide, Means}
+use Rattle.coincide.specs.Coincide.{Coincide, Means, Answers}
 use Rattle.rules.proofs.count_rule as count-rule′
 use Rattle.rules.proofs.is_note as is-note′
 use Rattle.rules.proofs.note_rule as note-rule′
@@ -42,9 +42,6 @@ good-loop κs a x y e f p q = p ∙ sym q
 pub obeys : Coincide obeys′.ended obeys′.Reads.Post
 obeys κs a x y e f p q = p ∙ sym q
 
-pub zero-record : Coincide zero-record′.ended zero-record′.Reads.Post
-zero-record κs a x y e f p q = p ∙ sym q
-
 -- 1..32
 pub count-rule-means : Means count-rule′.ended count-rule′.Reads.Post (λ κs a r e. (r ≡ true) ↔ ((1 ≤ a .0) × (a .0 ≤ 32)))
 count-rule-means κs a r e = tells _ r (rules .counts _)
@@ -53,7 +50,8 @@ pub is-note-means : Means is-note′.ended is-note′.Reads.Post (λ κs a r e. 
 is-note-means κs a r e = tells _ r (rules .numbers _)
 
 -- the note before, and a note: in this order
-pub note-rule-means : Means note-rule′.ended note-rule′.Reads.Post (λ κs a r e. (r ≡ true) ↔ ((1 ≤ a .1 .0) × (a .1 .0 ≤ 32) × (a .0 < a .1 .0)))
+pub note-rule-means : Means note-rule′.ended note-rule′.Reads.Post
+    (λ κs a r e. (r ≡ true) ↔ ((1 ≤ a .1 .0) × (a .1 .0 ≤ 32) × (a .0 < a .1 .0)))
 note-rule-means κs a r e = tells _ r (rules .notes _ _)
 
 pub length-rule-means : Means length-rule′.ended length-rule′.Reads.Post
@@ -76,5 +74,5 @@ good-loop-means κs a r e = tells _ r (rules .loops _ _ _)
 pub obeys-means : Means obeys′.ended obeys′.Reads.Post (λ κs a r e. (r ≡ true) ↔ Obeyed (a .0))
 obeys-means κs a r e = tells _ r (rules .obeyed _)
 
-pub zero-record-means : Means zero-record′.ended zero-record′.Reads.Post (λ κs a r e. r ≡ zeroRecord)
-zero-record-means κs a r e = (λ p. p, λ p. p)
+pub zero-record-means : Answers zero-record′.ended zero-record′.Reads.Post (λ κs a. zeroRecord)
+zero-record-means κs a r e = Iff·rfl

@@ -2,7 +2,7 @@
 use Prim.Native.Nat.{ℕ}
 use mathlib.Core.Path.{_≡_, sym, ap, _∙_}
 use mathlib.Core.Bool.{true}
-use mathlib.Core.Logic.{_↔_}
+use mathlib.Core.Logic.{_↔_, Iff·rfl}
 use mathlib.Core.List.{List, []}
 use denote.Ref.{now}
 use Rattle.slots.specs.declared.Answer.{Answer}
@@ -17,7 +17,7 @@ use Rattle.sheet_promises.specs.Promises.{Lists}
 use Rattle.sheet_promises.proofs.Listing.{lists-none}
 use Rattle.sheet_promises.proofs.Proved.{proved as sheets}
 use Rattle.coincide.proofs.Tells.{tells}
-use Rattle.coincide.specs.Coincide.{Coincide, Means}
+use Rattle.coincide.specs.Coincide.{Coincide, Means, Answers}
 use Rattle.session.proofs.empty_session as empty-session′
 use Rattle.session.proofs.slot_index as slot-index′
 use Rattle.session.proofs.open_after as open-after′
@@ -35,9 +35,6 @@ none-means s = (λ e. rw e lists-none, λ l. sheets .one-session s emptySession 
 
 pub empty-session-means : Means empty-session′.ended empty-session′.Reads.Post (λ κs a r e. Lists r [])
 empty-session-means κs a r e = none-means r
-
-pub slot-index : Coincide slot-index′.ended slot-index′.Reads.Post
-slot-index κs a x y e f p q = p ∙ sym q
 
 pub Session-deliver : Coincide Session-deliver′.ended Session-deliver′.Reads.Post
 Session-deliver κs a x y e f p q = p ∙ sym q
@@ -79,8 +76,9 @@ Session-ready κs a x y e f p q = p ∙ sym q
 pub lit-means : (s : Session) → (ready s ≡ true) ↔ ((s .listed ≡ s .opened) × (s .opened ≡ 0 → ⊥))
 lit-means s = rw (session .ready-by s) (session .lights (s .listed) (s .opened))
 
-pub Session-ready-means : Means Session-ready′.ended Session-ready′.Reads.Post (λ κs a r e. (r ≡ true) ↔ ((a .0 .listed ≡ a .0 .opened) × (a .0 .opened ≡ 0 → ⊥)))
+pub Session-ready-means : Means Session-ready′.ended Session-ready′.Reads.Post
+    (λ κs a r e. (r ≡ true) ↔ ((a .0 .listed ≡ a .0 .opened) × (a .0 .opened ≡ 0 → ⊥)))
 Session-ready-means κs a r e = tells _ r (lit-means (a .0))
 
-pub slot-index-means : Means slot-index′.ended slot-index′.Reads.Post (λ κs a r e. r ≡ slotIndex (a .0))
-slot-index-means κs a r e = (λ p. p, λ p. p)
+pub slot-index-means : Answers slot-index′.ended slot-index′.Reads.Post (λ κs a. slotIndex (a .0))
+slot-index-means κs a r e = Iff·rfl

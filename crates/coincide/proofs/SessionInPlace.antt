@@ -24,7 +24,8 @@ deliver-says = record { claim = _; stated = λ M 𝓤 H A mem run κs a g r e. r
 pub deliver : CoincideAt deliver′.ended Session (λ κs e. now (e .0)) (deliver-says .claim)
 deliver κs a x y e f p q = (p .0 ∙ sym (q .0), p .1 ∙ sym (q .1))
 
-pub deliver-rows : Means deliver′.ended (deliver-says .claim) (λ κs a r e. Row (now (a .0)) (a .1 .0) (now (a .1 .1 .0)) (record { answer = r; session = now (e .0) }))
+pub deliver-rows : Means deliver′.ended (deliver-says .claim)
+    (λ κs a r e. Row (now (a .0)) (a .1 .0) (now (a .1 .1 .0)) (record { answer = r; session = now (e .0) }))
 deliver-rows κs a r e = delivered (now (a .0)) (a .1 .0) (now (a .1 .1 .0)) r (now (e .0))
 
 abbrev pub ask-says : Says ask′.ended (λ M. ask′.clauses {M = M})
@@ -42,7 +43,8 @@ ready-says = record { claim = _; stated = λ M 𝓤 H A mem run κs a g r e. ref
 pub ready : Coincide ready′.ended (ready-says .claim)
 ready κs a x y e f p q = p ∙ sym q
 
-pub ready-means : Means ready′.ended (ready-says .claim) (λ κs a r e. (r ≡ true) ↔ ((now (a .0) .listed ≡ now (a .0) .opened) × (now (a .0) .opened ≡ 0 → ⊥)))
+pub ready-means : Means ready′.ended (ready-says .claim)
+    (λ κs a r e. (r ≡ true) ↔ ((now (a .0) .listed ≡ now (a .0) .opened) × (now (a .0) .opened ≡ 0 → ⊥)))
 ready-means κs a r e = tells _ r (lit-means (now (a .0)))
 
 abbrev pub list-none-says : Says list-none′.ended (λ M. list-none′.clauses {M = M})

@@ -45,6 +45,14 @@ Means T claim says =
     (κs : Lfts (T .signature .lifetimes)) (a : Args (T .signature) κs) (r : Res (T .signature) κs) (e : AtExit T κs)
     → claim κs a r e ↔ says κs a r e
 
+-- an answer that is worked out from the arguments
+abbrev pub Answer : Ended → Type 0
+Answer T = (κs : Lfts (T .signature .lifetimes)) → Args (T .signature) κs → Res (T .signature) κs
+
+-- what meets the claim is just this answer: then two results that meet it are one (`answers-coincide`)
+abbrev pub Answers : (T : Ended) → Claim T → Answer T → Type 0
+Answers T claim answer = Means T claim (λ κs a r e. r ≡ answer κs a)
+
 -- where the result is a part of what was lent: its bytes and its address
 abbrev pub PartsCoincide : (T : Ended) → ((κs : Lfts (T .signature .lifetimes)) → Res (T .signature) κs → RefT (List ℕ)) → Claim T → Type 0
 PartsCoincide T part claim =
