@@ -1,3 +1,4 @@
+pub mod Files
 pub mod Reached
 pub mod Rising
 pub mod Proved

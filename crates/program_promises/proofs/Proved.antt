@@ -1,7 +1,7 @@
 -- The crate's promises, proved. Assumes nothing.
 use Prim.Native.Nat.{ℕ}
 use mathlib.Core.Path.{_≡_, refl, sym, ap, _∙_}
-use mathlib.Core.List.{List, []}
+use mathlib.Core.List.{List, [], _∷_, _++_}
 use native.Mathlib.Omega.{arith}
 use lib.ListN.{length}
 use Rattle.rules.specs.declared.Record.{Record}
@@ -20,7 +20,8 @@ use Rattle.promises.proofs.Proved.{proved as demands}
 use Rattle.report.specs.Report.{noteLine, refusedLine, lineOf, report}
 use Rattle.report.proofs.Proved.{proved as reports}
 use Rattle.loader.specs.Loading.{ShownOf, refused, loaded}
-use Rattle.program_promises.specs.Promises.{LineTells, Told, Promises}
+use Rattle.program_promises.specs.Promises.{LineTells, linesOf, Told, Promises}
+use Rattle.program_promises.proofs.Files.{files}
 use Rattle.program_promises.proofs.Reached.{Reached, loaded-reached}
 use Rattle.program_promises.proofs.Rising.{report-in-order}
 
@@ -73,9 +74,20 @@ shown-refused text number line printed r (loaded good l) =
     let e = sheets .refuses text number line .1 r in
     absurd (e .1 (sym (ap (λ (v : Verdict). v .number) (e .0)) ∙ good))
 
+lines-end : (s : Session) → linesOf s [] ≡ []
+unfolding linesOf
+lines-end s = refl
+
+lines-next : (s : Session) (e : Entry) (es : List Entry) → linesOf s (e ∷ es) ≡ lineOf (e .note) (ask s (e .note)) ++ linesOf s es
+unfolding linesOf
+lines-next s e es = refl
+
 pub proved : Promises
 proved =
     record {
+      files = files;
+      no-lines = λ s. lines-end s;
+      more-lines = λ s e es. lines-next s e es;
       loads = λ s t l. let way = loaded-reached s t 32 l in (way .deliveries, way .reached);
       accepted = shown-accepted;
       refused = shown-refused;

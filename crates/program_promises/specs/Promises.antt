@@ -15,6 +15,7 @@ use Rattle.sheet_promises.specs.Promises.{Among}
 use Rattle.promises.specs.Sequences.{after, acceptedBytes}
 use Rattle.report.specs.Report.{noteLine, refusedLine, lineOf, report}
 use Rattle.loader.specs.Loading.{Loaded, ShownOf}
+use Rattle.program_promises.specs.Files.{Files}
 
 -- the line of a listed note with record r, `bytes` being the bytes accepted for it
 pub record LineTells (note : ℕ) (r : Record) (bytes line : List ℕ) : Type 0 where
@@ -51,6 +52,11 @@ pub record Told (text : List ℕ) (es : List Entry) (printed : List ℕ) : Type 
   pub no-line : (note : ℕ) → ((e : Entry) → Among e es → e .note ≡ note → ⊥) → lineOf note (ask session note) ≡ []
 
 pub record Promises : Type 0 where
+  -- what is loaded from a folder's files, and what is shown of it
+  pub files : Files
+  -- the lines of a sheet's notes, one after the other
+  pub no-lines : (s : Session) → linesOf s [] ≡ []
+  pub more-lines : (s : Session) (e : Entry) (es : List Entry) → linesOf s (e ∷ es) ≡ lineOf (e .note) (ask s (e .note)) ++ linesOf s es
   -- a session that is loaded, its counts too, is one that deliveries lead to
   pub loads : (s t : Session) → Loaded s t → (os : List Operation) × (t ≡ after s os)
   -- of a text that is a sheet, and of one that is not

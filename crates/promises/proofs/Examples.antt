@@ -1,7 +1,9 @@
 -- The examples that document 01 marks P hold. Each is worked out by the definitions.
 use Prim.{tt}
+use Prim.Native.Nat.{ℕ}
+use lib.ListN.{replicate}
 use mathlib.Core.Path.{_≡_, refl}
-use mathlib.Core.Logic.{_↔_}
+use mathlib.Core.Logic.{_↔_, Iff·rfl}
 use mathlib.Core.List.{List, [], _∷_}
 use mathlib.Core.Bool.{Bool, true, _&&_}
 use lib.Dec.{eqb}
@@ -9,7 +11,7 @@ use borrow.Author.Tests.{eqb-true}
 use Rattle.truth.proofs.Tests.{first, second}
 use Rattle.word.specs.Rotation.{_⊞_, _<<<_}
 use Rattle.word.specs.BigEndian.{bigEndian, numberFrom, numberOf}
-use Rattle.standard.specs.Standard.{T, FF, GG, P0, P1, split, nextWord, extended, expansion, W′, roundOn, round, rounds}
+use Rattle.standard.specs.Standard.{IV, T, FF, GG, P0, P1, split, nextWord, extended, expansion, W′, roundOn, round, rounds}
 use Rattle.padding.specs.Padding.{zeros, padding, padded, blockCount}
 use Rattle.rules.specs.Rules.{isNote, noteRule, lengthRule, loopRule}
 use Rattle.sheet.specs.Judging.{entryNumber}
@@ -31,4 +33,17 @@ examples-hold = hold examples refl
 
 pub each-holds : (e : Example) (es : List Example) → Hold (e ∷ es) ↔ ((e .found ≡ e .printed) × Hold es)
 unfolding Hold
-each-holds e es = (λ p. p, λ p. p)
+each-holds e es = Iff·rfl
+
+pub abc-words : abc ≡ expansion (padded (0x61 ∷ 0x62 ∷ 0x63 ∷ []))
+unfolding abc
+abc-words = refl
+
+pub abc-round-0 : abcRound0 ≡ rounds 1 IV (expansion (padded (0x61 ∷ 0x62 ∷ 0x63 ∷ [])))
+unfolding abc abcRound0
+abc-round-0 = refl
+
+pub loop-number : (start end : ℕ)
+    → loopNumber start end ≡ entryNumber 0 (record { note = 1; sample = record { length = 64; «loop_start» = start; «loop_end» = end; digest = replicate 32 0 } })
+unfolding loopNumber
+loop-number start end = refl

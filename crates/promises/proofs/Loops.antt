@@ -124,6 +124,14 @@ all-kept s [] note = refl
 all-kept s (delivery m piece ∷ os) note =
     all-kept (perform s (delivery m piece) .session) os note ∙ rw (session .delivers s m piece) (keeps s m piece note)
 
+pub no-last : (before : ℕ) → lastNote before [] ≡ before
+unfolding lastNote
+no-last before = refl
+
+pub last-of : (before : ℕ) (e : Entry) (es : List Entry) → lastNote before (e ∷ es) ≡ lastNote (e .note) es
+unfolding lastNote
+last-of before e es = refl
+
 pub loops : Loops
 loops =
     record {
