@@ -4,7 +4,7 @@ use mathlib.Core.Path.{_≡_, ap}
 use mathlib.Core.Logic.{_↔_}
 use mathlib.Core.List.{List}
 use Rattle.mac.specs.Codes.{update}
-use Rattle.mac.specs.Rows.{UpdateRow}
+use Rattle.mac.specs.Promises.{UpdateRow}
 use Rattle.mac.specs.declared.Code.{Code}
 use Rattle.mac.specs.declared.CodeUpdated.{CodeUpdated}
 use Rattle.mac.proofs.Proved.{proved as codes}

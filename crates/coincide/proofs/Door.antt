@@ -14,7 +14,8 @@ use Rattle.session.proofs.Proved.{proved as session}
 use Rattle.writing.proofs.Proved.{proved as writing}
 use Rattle.coincide.proofs.Tells.{tells}
 use Rattle.coincide.proofs.Session.{lit-means, delivered}
-use Rattle.coincide.proofs.Reading.{SheetRow, reads, reads-whole}
+use Rattle.sheet_promises.specs.Promises.{SheetRow}
+use Rattle.coincide.proofs.Reading.{reads, reads-whole}
 use Rattle.hash.specs.State.{fresh}
 use Rattle.hash.specs.Update.{update as updated}
 use Rattle.hash.specs.Digests.{finish as finished, digest, compareMessage, compareState}
@@ -23,7 +24,7 @@ use Rattle.padded.specs.Viewing.{viewNumber, viewPlace}
 use Rattle.padded.specs.Removing.{removeNumber, removeLength}
 use Rattle.coincide.specs.Coincide.{Coincide, CoincideAt, Means, Says, Answers}
 use Rattle.hash.specs.declared.Digest.{Digest}
-use Rattle.mac.specs.Rows.{StartRow, UpdateRow, FinishRow, CodeRow, HeldRow}
+use Rattle.mac.specs.Promises.{StartRow, UpdateRow, FinishRow, CodeRow, HeldRow}
 use Rattle.mac.specs.declared.Code.{Code}
 use Rattle.mac.proofs.Proved.{proved as codes}
 use Rattle.keyed_promises.specs.Answers.{Answered}

@@ -1,4 +1,6 @@
 pub mod Answers
+pub mod Words
+pub mod Structs
 pub mod Tells
 pub mod Reading
 pub mod Coding

@@ -4,7 +4,7 @@ use mathlib.Core.Bool.{true}
 use mathlib.Core.Logic.{_↔_}
 use denote.Ref.{now}
 use Rattle.hash.specs.declared.Digest.{Digest}
-use Rattle.mac.specs.Rows.{StartRow, Ordered, UpdateRow, FinishRow, CodeRow, HeldRow}
+use Rattle.mac.specs.Promises.{StartRow, Ordered, UpdateRow, FinishRow, CodeRow, HeldRow}
 use Rattle.mac.proofs.Proved.{proved as codes}
 use Rattle.coincide.proofs.Tells.{tells}
 use Rattle.coincide.specs.Coincide.{Coincide, Means}

@@ -1,7 +1,7 @@
 -- `mac_in_place`: any two results that meet a contract coincide; and the contract is a row of update's table, of its own state and piece. Assumes nothing.
 use mathlib.Core.Path.{refl, sym, _∙_}
 use denote.Ref.{now}
-use Rattle.mac.specs.Rows.{UpdateRow}
+use Rattle.mac.specs.Promises.{UpdateRow}
 use Rattle.mac.specs.declared.Code.{Code}
 use Rattle.coincide.proofs.Coding.{taken}
 use Rattle.coincide.specs.Coincide.{CoincideAt, Means, Says}

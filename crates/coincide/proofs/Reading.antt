@@ -14,13 +14,8 @@ use Rattle.sheet.specs.declared.Verdict.{Verdict}
 use Rattle.sheet.specs.declared.Sheet.{Sheet}
 use Rattle.sheet_promises.specs.Grammar.{IsSheet}
 use Rattle.sheet_promises.specs.Faults.{Refused}
-use Rattle.sheet_promises.specs.Promises.{Lists}
+use Rattle.sheet_promises.specs.Promises.{SheetRow, is-read, is-refused}
 use Rattle.sheet_promises.proofs.Proved.{proved as sheets}
-
--- a sheet is accepted and its notes are listed; another text is refused by its first bad line, and no note is listed
-pub data SheetRow (text : List ℕ) : (verdict : Verdict) (session : Session) → Type 0 where
-  is-read : {s : Session} (es : List Entry) → IsSheet text es → Lists s es → SheetRow text (record { number = 0; line = 0 }) s
-  is-refused : {s : Session} (number line : ℕ) → Refused text number line → Lists s [] → SheetRow text (record { number = number; line = line }) s
 
 module _ (text : List ℕ) where
   abbrev Answers : Verdict → Session → Type 0

@@ -7,9 +7,9 @@ use denote.Ref.{now}
 use Rattle.session.specs.Promises.{Row, AskRow}
 use Rattle.session.specs.declared.Session.{Session}
 use Rattle.session.proofs.Proved.{proved as session}
-use Rattle.sheet_promises.specs.Promises.{Lists}
+use Rattle.sheet_promises.specs.Promises.{SheetRow, Lists}
 use Rattle.coincide.proofs.Tells.{tells}
-use Rattle.coincide.proofs.Reading.{SheetRow, reads}
+use Rattle.coincide.proofs.Reading.{reads}
 use Rattle.coincide.proofs.Session.{none-means, lit-means, delivered}
 use Rattle.coincide.specs.Coincide.{Coincide, CoincideAt, Means, Says}
 use Rattle.session_in_place.proofs.deliver as deliver′

@@ -5,7 +5,8 @@ use denote.Ref.{now}
 use Rattle.session.specs.Sessions.{emptySession}
 use Rattle.sheet.specs.Judging.{entriesAt, withNotes, headerAt, headerNumber, entryNumber, noteNumber, judged as verdictOf}
 use Rattle.sheet.specs.Filling.{withListed, start, listing}
-use Rattle.coincide.proofs.Reading.{SheetRow, reads-whole}
+use Rattle.sheet_promises.specs.Promises.{SheetRow}
+use Rattle.coincide.proofs.Reading.{reads-whole}
 use Rattle.coincide.specs.Coincide.{Coincide, Means, Answers}
 use Rattle.sheet.proofs.header_at as header-at′
 use Rattle.sheet.proofs.header_number as header-number′

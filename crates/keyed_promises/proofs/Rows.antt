@@ -20,7 +20,7 @@ use Rattle.lines.specs.declared.DigestField.{DigestField}
 use Rattle.lines.specs.declared.Entry.{Entry}
 use Rattle.mac.specs.Hmac.{hmac}
 use Rattle.mac.specs.Codes.{compareMessage}
-use Rattle.mac.specs.Rows.{CodeRow, HeldRow, long-message, coded, refused, differs, equals}
+use Rattle.mac.specs.Promises.{CodeRow, HeldRow, long-message, coded, refused, differs, equals}
 use Rattle.mac.proofs.Proved.{proved as codes}
 use Rattle.session.specs.Sessions.{emptySession}
 use Rattle.session.specs.declared.Session.{Session}

@@ -28,8 +28,7 @@ use Rattle.hash.proofs.Updating.{update-takes}
 use Rattle.hash.proofs.Cutting.{digest-sm3}
 use Rattle.hash.proofs.Refusing.{length-sm3}
 use Rattle.mac.specs.Hmac.{_⊕_, shortKey, keyBlock}
-use Rattle.mac.specs.Rows.{afterBlock}
-use Rattle.mac.specs.Promises.{KeyBlock, Xored}
+use Rattle.mac.specs.Promises.{afterBlock, KeyBlock, Xored}
 
 -- bytes xored with the same byte, as often as there are bytes
 pub length-xored : (block : List ℕ) (n pad : ℕ) → length block ≡ n → length (block ⊕ replicate n pad) ≡ n

@@ -23,7 +23,7 @@ use Rattle.hash.proofs.Updating.{update-takes as hash-takes, update-passes as h
 use Rattle.hash.proofs.Refusing.{finish-refusals as finish-rows}
 use Rattle.mac.specs.Hmac.{_⊕_, ipad, opad, keyBlock}
 use Rattle.mac.specs.Codes.{started, start, inOrder, update, finish}
-use Rattle.mac.specs.Rows.{Ordered, afterBlock}
+use Rattle.mac.specs.Promises.{Ordered, afterBlock}
 use Rattle.mac.specs.declared.Code.{Code}
 use Rattle.mac.specs.declared.CodeUpdated.{CodeUpdated}
 use Rattle.mac.proofs.Blocks.{length-xored, length-block, fresh-takes, block-taken}

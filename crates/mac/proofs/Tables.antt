@@ -19,8 +19,7 @@ use Rattle.hash.proofs.Comparing.{compared-refused, compared-size, compared-sam
 use Rattle.hash.proofs.Refusing.{length-sm3}
 use Rattle.mac.specs.Hmac.{ipad, opad, hmac}
 use Rattle.mac.specs.Codes.{start, inOrder, update, finish, codeOf, compareState, compareMessage}
-use Rattle.mac.specs.Rows.{keyState, StartRow, Ordered, UpdateRow, FinishRow, CodeRow, HeldRow, long-key, started, not-in-order, too-long, taken, finished, long-message, coded, refused, wrong-size, differs, equals}
-use Rattle.mac.specs.Promises.{Tables, StateCompared, MessageCompared}
+use Rattle.mac.specs.Promises.{keyState, StartRow, Ordered, UpdateRow, FinishRow, CodeRow, HeldRow, long-key, started, not-in-order, too-long, taken, finished, long-message, coded, refused, wrong-size, differs, equals, Tables, StateCompared, MessageCompared}
 use Rattle.mac.specs.declared.Code.{Code}
 use Rattle.mac.specs.declared.CodeUpdated.{CodeUpdated}
 use Rattle.mac.proofs.States.{parts-in-order, in-order-parts, started-blocks, start-takes, start-passes, update-spoilt, update-passes, update-accepts, finish-spoilt, finish-folds}

@@ -1,5 +1,4 @@
 pub mod Hmac
 pub mod Codes
 pub mod Cutting
-pub mod Rows
 pub mod Promises

@@ -11,6 +11,7 @@ use Rattle.session.specs.declared.Session.{Session}
 use Rattle.slots.specs.declared.Slot.{Slot}
 use Rattle.sheet.specs.Judging.{headerAt, judged, entriesAt, sheetOf}
 use Rattle.sheet.specs.declared.Sheet.{Sheet}
+use Rattle.sheet.specs.declared.Verdict.{Verdict}
 use Rattle.lines.specs.Lines.{noteLine}
 use Rattle.lines.specs.declared.Entry.{Entry}
 use Rattle.rules.specs.declared.Record.{Record}
@@ -49,6 +50,14 @@ pub record Lists (s : Session) (es : List Entry) : Type 0 where
 -- accepted exactly when the text is a sheet: of any reader
 abbrev pub AcceptsOf : (read : List ℕ → Sheet) → Type 0
 AcceptsOf read = (text : List ℕ) → (read text .verdict .number ≡ accepted) ↔ ((es : List Entry) × IsSheet text es)
+
+-- what reading a text answers and leaves: a sheet is accepted and its notes are listed; another text is refused by its first bad line, and
+-- no note is listed. That the readers' contracts are these rows is in the crate `coincide`
+pub data SheetRow (text : List ℕ) : (verdict : Verdict) (session : Session) → Type 0 where
+  is-read : {s : Session} (es : List Entry) → IsSheet text es → Lists s es → SheetRow text (record { number = 0; line = 0 }) s
+  is-refused :
+      {s : Session} (number line : ℕ) → Refused text number line → Lists s []
+      → SheetRow text (record { number = number; line = line }) s
 
 pub record Promises : Type 0 where
   -- demand 2: "A sheet is accepted exactly when it follows the sheet rules."
