@@ -1,4 +1,5 @@
--- Document 01, "The program": what it means that a folder's files are loaded and shown, step by step. What a file holds is not in the logic.
+-- Document 01, "The program": what it means that a folder's files are loaded and shown, step by step. What a file holds is not in the
+-- logic.
 use Prim.Native.Nat.{ℕ, suc, _≤_, _<_}
 use mathlib.Core.Path.{_≡_}
 use mathlib.Core.Logic.{_↔_, _⊎_}

@@ -27,7 +27,8 @@ pub record Promises : Type 0 where
   pub loop-number :
       (start end : ℕ)
       → loopNumber start end
-      ≡ entryNumber 0 (record { note = 1; sample = record { length = 64; «loop_start» = start; «loop_end» = end; digest = replicate 32 0 } })
+      ≡ entryNumber 0
+      (record { note = 1; sample = record { length = 64; «loop_start» = start; «loop_end» = end; digest = replicate 32 0 } })
   -- what "after any sequence of deliveries", "the bytes accepted for it" and "each note's own" mean, step by step
   pub sequencing : Sequencing
   -- demand 3, all but its last sentence
