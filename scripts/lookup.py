@@ -43,11 +43,16 @@ def blanked(found):
     return re.sub(r"[^\n]", " ", found.group(0))
 
 
+def uncommented(text):
+    """A file of antt with blanks for its comments."""
+    return re.sub(r"(?ms)\{-.*?-\}|(?:(?<=\s)|^)--(?=\s|$)[^\n]*", blanked, text)
+
+
 def declarations(text):
     """Each item of a file of antt: declared at its top, or in a `module _` or `mutual` block; then a record's fields and a data type's constructors. What
     hangs in a `where`, or stands deeper for another reason, is a part of the item above it and is no item."""
     found, levels, heads, opening, item, rows = [], [0], [], None, None, []
-    text = re.sub(r"(?ms)\{-.*?-\}|(?:(?<=\s)|^)--(?=\s|$)[^\n]*", blanked, text)
+    text = uncommented(text)
 
     def close():
         nonlocal item

@@ -88,8 +88,9 @@ fn sheet_of(fd: i32) -> Sheet
     sheet::read(&text[..n])
 }
 
-// The text to print of a folder: of its rank.txt, and of the files of its notes.
-fn shown(folder: &[u8]) -> Text
+// The text to print of a folder: of its rank.txt, and of the files of its notes. Public so that another crate's theorem can say what its
+// contract means.
+pub fn shown(folder: &[u8]) -> Text
     ensures { λ r. ⌜ Shown r ⌝ }
 {
     let sheet = sheet_of(path::open_sheet(folder));

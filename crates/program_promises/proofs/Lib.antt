@@ -2,3 +2,4 @@ pub mod Files
 pub mod Reached
 pub mod Rising
 pub mod Proved
+pub mod Contract
