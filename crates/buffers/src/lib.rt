@@ -1,4 +1,5 @@
 // Steps on lent bytes: compared, copied, cleared.
+#![tactic(auto)]
 ghost use Rattle.std.specs.Prelude.{◌≡◌, ◌+◌, ◌-◌, ◌≤◌, length, replicate};
 ghost use Rattle.std.proofs.Math.Seq.{paste};
 ghost use Rattle.buffers.specs.Same.{same, all_zero};

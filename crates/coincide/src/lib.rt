@@ -1,1 +1,2 @@
 // No code: any two results that meet a public function's contract coincide.
+#![tactic(auto)]

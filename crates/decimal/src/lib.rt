@@ -1,11 +1,12 @@
 // Decimal numbers as text: read at a place of a lent text, and written into a lent buffer.
+#![tactic(auto)]
 ghost use Rattle.std.specs.Prelude.{◌≡◌, length};
 ghost use Rattle.buffers.specs.Copy.{copied};
 ghost use Rattle.decimal.specs.Reading.{is_figure, goes_on, good_numeral, no_numeral, numeral_at};
 ghost use Rattle.decimal.specs.Writing.{decimal, figures_of};
 
 // The number that begins at a place, and the place after it; or that none begins there, and that place.
-#[derive(Drop)]
+#[derive(Clone, Copy)]
 pub struct Numeral {
     pub found: bool,
     pub at: usize,
@@ -13,7 +14,7 @@ pub struct Numeral {
 }
 
 // A number's figures: the last of these bytes, from an index on.
-#[derive(Drop)]
+#[derive(Clone, Copy)]
 pub struct Figures {
     pub bytes: [u8; 20],
     pub from: usize,

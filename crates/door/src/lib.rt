@@ -1,5 +1,6 @@
 // What a C host links (host/veenstipper.h). Nothing here decides anything: each function passes on, and its contract is that of what it
 // passes on to.
+#![tactic(auto)]
 mod codes;
 mod in_place;
 

@@ -1,4 +1,5 @@
 // Runs the program's work over every stored folder of data/: accepted and refused sheets, and files of every size that matters.
+#![tactic(auto)]
 use libc::STDOUT_FILENO;
 
 // One stored folder: its name, and what the program prints of it.

@@ -1,4 +1,5 @@
 // The hash state: what is known of a message of which a part has come.
+#![tactic(auto)]
 ghost use Rattle.std.specs.Prelude.{◌≡◌, true, ◌++◌, ◌+◌, ◌≤◌, length};
 ghost use Rattle.hash.specs.State.{fresh, in_list, is_fresh, in_order, as_tail};
 ghost use Rattle.refusal.specs.Table.{accepted};
@@ -15,7 +16,7 @@ use units::{Bytes, LONGEST};
 
 // "Eight words, a total of bytes taken, and 64 tail bytes."
 #[repr(C)]
-#[derive(Drop)]
+#[derive(Clone, Copy)]
 pub struct Hash {
     pub words: Words,
     pub total: u64,
@@ -24,7 +25,7 @@ pub struct Hash {
 
 // What update answers.
 #[repr(C)]
-#[derive(Drop)]
+#[derive(Clone, Copy)]
 pub struct Updated {
     pub number: u8,
     pub state: Hash,
@@ -32,7 +33,7 @@ pub struct Updated {
 
 // What finish and the one call answer.
 #[repr(C)]
-#[derive(Drop)]
+#[derive(Clone, Copy)]
 pub struct Digest {
     pub number: u8,
     pub bytes: [u8; 32],
@@ -40,7 +41,7 @@ pub struct Digest {
 
 // What a comparison answers.
 #[repr(C)]
-#[derive(Drop)]
+#[derive(Clone, Copy)]
 pub struct Compared {
     pub number: u8,
     pub same: bool,

@@ -1,4 +1,5 @@
 // The hash state in place: "The card driver keeps one hash state and folds each piece into it in place."
+#![tactic(auto)]
 ghost use Rattle.std.specs.Prelude.{◌≡◌};
 ghost use Rattle.hash.specs.Update.{update as updated};
 
@@ -16,7 +17,7 @@ pub fn update(h: &mut Hash, piece: &[u8]) -> u8
 }
 
 // What a card driver keeps: one hash state.
-#[derive(Drop)]
+#[derive(Clone, Copy)]
 pub struct Card {
     pub state: Hash,
 }

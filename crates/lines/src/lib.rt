@@ -1,5 +1,6 @@
 // The fields and lines of a rank sheet, read by place through the lent text. Each step goes on where the step before it stopped, and
 // where that one had a fault, it answers that fault: so the first fault of a line is the line's.
+#![tactic(auto)]
 ghost use Rattle.std.specs.Prelude.{◌≡◌};
 ghost use Rattle.hex_digits.specs.Digits.{digits};
 ghost use Rattle.lines.specs.Reading.{good_stop, fault, is_good, has_at, mark_at, word_at, mark_after, word_after};
@@ -9,32 +10,32 @@ ghost use Rattle.lines.specs.Lines.{line_fault, note_line, header_line};
 use rules::Record;
 
 // Where a step stopped, and what it wanted there: nothing more, and the next place; or the place of its fault.
-#[derive(Drop)]
+#[derive(Clone, Copy)]
 pub struct Stop {
     pub wanted: u8,
     pub at: usize,
 }
 
-#[derive(Drop)]
+#[derive(Clone, Copy)]
 pub struct Field {
     pub stop: Stop,
     pub value: u32,
 }
 
-#[derive(Drop)]
+#[derive(Clone, Copy)]
 pub struct DigestField {
     pub stop: Stop,
     pub digest: [u8; 32],
 }
 
 // What a note line says.
-#[derive(Drop)]
+#[derive(Clone, Copy)]
 pub struct Entry {
     pub note: u32,
     pub sample: Record,
 }
 
-#[derive(Drop)]
+#[derive(Clone, Copy)]
 pub struct NoteLine {
     pub stop: Stop,
     pub entry: Entry,

@@ -1,5 +1,6 @@
 // The program's work, over a folder: a rank's sheet and its notes' files, and the text that is printed of them. What a file holds is not
 // in the logic; what is made of it is.
+#![tactic(auto)]
 ghost use Rattle.std.specs.Prelude.{◌≡◌};
 ghost use Rattle.loader.specs.Loading.{Fed, NoteLoaded, Loaded, OfSlot, SheetRead, Shown};
 

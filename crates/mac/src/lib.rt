@@ -1,4 +1,5 @@
 // HMAC over SM3, as RFC 2104 defines it: a code of 32 bytes for a key and a message.
+#![tactic(auto)]
 ghost use Rattle.std.specs.Prelude.{◌≡◌, ◌≤◌, length, replicate};
 ghost use Rattle.hash.specs.State.{fresh};
 ghost use Rattle.hash.specs.Update.{update as hash_update};
@@ -12,7 +13,7 @@ use units::LONGEST;
 
 // A code state is two hash states: the inner has taken the key's block and then the message, the outer the key's other block.
 #[repr(C)]
-#[derive(Drop)]
+#[derive(Clone, Copy)]
 pub struct Code {
     pub inner: Hash,
     pub outer: Hash,
@@ -20,7 +21,7 @@ pub struct Code {
 
 // What start and update answer.
 #[repr(C)]
-#[derive(Drop)]
+#[derive(Clone, Copy)]
 pub struct CodeUpdated {
     pub number: u8,
     pub state: Code,

@@ -1,4 +1,5 @@
 // Padded messages: the view of their blocks, and the remover.
+#![tactic(auto)]
 ghost use Rattle.std.specs.Prelude.{◌≡◌, ◌+◌, ◌≤◌, length};
 ghost use Rattle.buffers.specs.Same.{same};
 ghost use Rattle.units.specs.Units.{longest};
@@ -12,7 +13,7 @@ use units::{Bits, Bytes};
 
 // A part by its place, for a host that cannot be handed a slice: which of the two it is part of, from which byte, and how many.
 #[repr(C)]
-#[derive(Drop)]
+#[derive(Clone, Copy)]
 pub struct Place {
     pub which: u8,
     pub offset: usize,

@@ -1,5 +1,6 @@
 // The reader of rank sheets: it holds the text and its place in it. Each function takes it apart and calls a covered one on the text and
 // the place.
+#![tactic(auto)]
 ghost use Rattle.std.specs.Prelude.{◌≡◌};
 ghost use Rattle.reader.specs.Reader.{begin_of, header_read, line_read};
 ghost use Rattle.sheet.specs.Judging.{judged};
@@ -8,20 +9,20 @@ use lines::{Field, NoteLine};
 use sheet::Verdict;
 
 // A reader of a sheet: the text, and the place in it where the reader stands.
-#[derive(Drop)]
+#[derive(Clone, Copy)]
 pub struct SheetReader<'a> {
     pub text: &'a [u8],
     pub at: usize,
 }
 
 // What was read, and the reader past it: at the fault's place where there is one.
-#[derive(Drop)]
+#[derive(Clone, Copy)]
 pub struct HeaderRead<'a> {
     pub field: Field,
     pub rest: SheetReader<'a>,
 }
 
-#[derive(Drop)]
+#[derive(Clone, Copy)]
 pub struct LineRead<'a> {
     pub line: NoteLine,
     pub rest: SheetReader<'a>,

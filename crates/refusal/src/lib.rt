@@ -1,4 +1,5 @@
 // The refusal numbers of the product's table, and what a call that writes into a buffer answers. 0 is an accepted call.
+#![tactic(auto)]
 ghost use Rattle.std.specs.Prelude.{◌≡◌, ◌∷◌, ◌++◌};
 ghost use Rattle.refusal.specs.Table.{accepted};
 ghost use Rattle.refusal.specs.Promises.{rows, later_rows};
@@ -69,7 +70,7 @@ pub const OTHER_GROUPS: u8 = 29;
 
 // What a call that writes into a lent buffer answers: its number, and how many bytes it wrote (0 where it refuses).
 #[repr(C)]
-#[derive(Drop)]
+#[derive(Clone, Copy)]
 pub struct Written {
     pub number: u8,
     pub count: usize,

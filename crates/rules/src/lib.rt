@@ -1,4 +1,5 @@
 // Rules 2 to 4 of a rank sheet. A line is judged by all of them, and a slot in order obeys rules 3 and 4.
+#![tactic(auto)]
 ghost use Rattle.std.specs.Prelude.{◌≡◌};
 ghost use Rattle.rules.specs.Rules.{count_rule, is_note, note_rule, length_rule, loop_rule, good_length, good_loop, obeys, zero_record};
 
@@ -6,7 +7,7 @@ use units::{Bytes, Frames};
 
 // What a sheet's line says of a note: length in bytes, loop start and end in frames, digest.
 #[repr(C)]
-#[derive(Drop)]
+#[derive(Clone, Copy)]
 pub struct Record {
     pub length: u32,
     pub loop_start: u32,

@@ -1,4 +1,5 @@
 // The loading session: 32 slots, one a note, and the rank-ready light's two counts.
+#![tactic(auto)]
 ghost use Rattle.std.specs.Prelude.{◌≡◌};
 ghost use Rattle.session.specs.Sessions.{empty_session, slot_index};
 ghost use Rattle.session.specs.Light.{open_after, all_open, ready};
@@ -8,7 +9,7 @@ use slots::{Answer, OPENED, Slot};
 
 // 32 slots, one a note; how many notes are listed, and how many are open.
 #[repr(C)]
-#[derive(Drop)]
+#[derive(Clone, Copy)]
 pub struct Session {
     pub slots: [Slot; 32],
     pub listed: u8,
@@ -20,7 +21,7 @@ const NOTES: u8 = 32;
 
 // What a delivery answers, and the session after it.
 #[repr(C)]
-#[derive(Drop)]
+#[derive(Clone, Copy)]
 pub struct Delivered {
     pub answer: Answer,
     pub session: Session,

@@ -1,4 +1,5 @@
 // The rank sheet, judged line by line, and the session that it gives.
+#![tactic(auto)]
 ghost use Rattle.std.specs.Prelude.{◌≡◌};
 ghost use Rattle.sheet.specs.Judging.{header_at, header_number, entry_number, note_number};
 ghost use Rattle.sheet.specs.Judging.{verdict_at, judged, entries_at, with_notes, sheet_of};
@@ -15,7 +16,7 @@ const EDITION: u8 = 49;
 
 // Whether a line is bad: its refusal number and its line number, from 1; both 0 where none is.
 #[repr(C)]
-#[derive(Drop)]
+#[derive(Clone, Copy)]
 pub struct Verdict {
     pub number: u8,
     pub line: u32,
@@ -23,14 +24,14 @@ pub struct Verdict {
 
 // What reading a sheet answers.
 #[repr(C)]
-#[derive(Drop)]
+#[derive(Clone, Copy)]
 pub struct Sheet {
     pub verdict: Verdict,
     pub session: Session,
 }
 
 // Where a sheet's note lines begin, and how many there are; the same as a session carries it.
-#[derive(Drop)]
+#[derive(Clone, Copy)]
 pub struct Start {
     pub at: usize,
     pub notes: u32,
@@ -38,7 +39,7 @@ pub struct Start {
 }
 
 // What a note line puts into a session: the slot, its index, and where the next line begins.
-#[derive(Drop)]
+#[derive(Clone, Copy)]
 pub struct Listing {
     pub index: usize,
     pub slot: Slot,

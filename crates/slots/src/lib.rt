@@ -1,4 +1,5 @@
 // One note's slot: whether it is in order, what a delivery makes of it, and what asking gives.
+#![tactic(auto)]
 ghost use Rattle.std.specs.Prelude.{◌≡◌};
 ghost use Rattle.slots.specs.Slots.{is_decided, state_in_order, slot_in_order, bytes_taken, empty_slot, waiting_slot};
 ghost use Rattle.slots.specs.Delivery.{bare_refusal, as_it_stands, decided_slot, with_piece, deliver_to, ask_of, is_listed, deliver_at, ask_at};
@@ -9,7 +10,7 @@ use rules::Record;
 
 // One note's place in the session.
 #[repr(C)]
-#[derive(Drop)]
+#[derive(Clone, Copy)]
 pub struct Slot {
     pub sample: Record,
     pub state: Hash,
@@ -18,7 +19,7 @@ pub struct Slot {
 
 // What a delivery and asking answer, but for the session.
 #[repr(C)]
-#[derive(Drop)]
+#[derive(Clone, Copy)]
 pub struct Answer {
     pub number: u8,
     pub status: u8,
@@ -26,7 +27,7 @@ pub struct Answer {
 }
 
 // What an operation on one slot answers, and the slot after it.
-#[derive(Drop)]
+#[derive(Clone, Copy)]
 pub struct Step {
     pub answer: Answer,
     pub slot: Slot,

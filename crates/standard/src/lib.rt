@@ -1,4 +1,5 @@
 // The SM3 standard's page: the functions that it names. Their names, and what each of them means, are those of specs/Standard.antt.
+#![tactic(auto)]
 ghost use Rattle.std.specs.Prelude.{◌≡◌, ◌+◌, ◌≤◌, ◌%◌};
 ghost use Rattle.std.proofs.Math.Seq.{paste};
 ghost use Rattle.word.specs.BigEndian.{big_endian};
@@ -7,7 +8,7 @@ ghost use Rattle.standard.specs.Standard.{FF, GG, P0, P1, T, round, xor_words, h
 
 // The eight words of a chaining value, or the eight registers of a round.
 #[repr(C)]
-#[derive(Drop)]
+#[derive(Clone, Copy)]
 pub struct Words {
     pub a: u32,
     pub b: u32,

@@ -1,10 +1,11 @@
 // Texts to print, put together by value before anything is written out.
+#![tactic(auto)]
 ghost use Rattle.std.specs.Prelude.{◌≡◌};
 ghost use Rattle.decimal.specs.Writing.{decimal};
 ghost use Rattle.texts.specs.Texts.{empty_text, with_part};
 
 // The text is the first so many of these bytes.
-#[derive(Drop)]
+#[derive(Clone, Copy)]
 pub struct Text {
     pub bytes: [u8; 1024],
     pub length: usize,

@@ -3,7 +3,7 @@ use Prim.Native.Nat.{ℕ, ◌<◌, ◌≤◌}
 use mathlib.Core.Path.{◌≡◌, refl, sym, ◌∙◌}
 use mathlib.Core.Bool.{Bool, true, false, not, ◌&&◌, true≢false}
 use mathlib.Core.Logic.{◌⊎◌, inl, inr, ⊎_map}
-use borrow.Author.Tests.{not-true, not-false, ltb-true, ltb-false}
+use borrow.Author.Tests.{ltb-true, ltb-false}
 use lib.Dec.{ltb}
 
 -- a test holds or it does not
@@ -45,9 +45,9 @@ never false f = refl
 pub not_both : (p : Bool) → p ≡ false → p ≡ true → ⊥
 not_both p f t = true≢false (sym t ∙ f)
 
--- an answer r to the test p that was tried as `not r`
-pub refuted : {r p : Bool} → r ≡ p → not r ≡ true → p ≡ false
-refuted {r} {p} e h = sym e ∙ not-true r h
+-- an answer r to the test p, as it was found
+pub refuted : {r p : Bool} → r ≡ p → r ≡ false → p ≡ false
+refuted {r} {p} e h = sym e ∙ h
 
-pub confirmed : {r p : Bool} → r ≡ p → not r ≡ false → p ≡ true
-confirmed {r} {p} e h = sym e ∙ not-false r h
+pub confirmed : {r p : Bool} → r ≡ p → r ≡ true → p ≡ true
+confirmed {r} {p} e h = sym e ∙ h

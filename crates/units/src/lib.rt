@@ -1,30 +1,31 @@
 // Three units of length that are never mixed: bits, bytes and sample frames. One frame is two bytes.
+#![tactic(auto)]
 ghost use Rattle.std.specs.Prelude.{◌≡◌};
 ghost use Rattle.units.specs.Units.{bits_of, bytes_of_bits, frames_of, bytes_of_frames};
 
-#[derive(Drop)]
+#[derive(Clone, Copy)]
 pub struct Bits(pub u64);
 
-#[derive(Drop)]
+#[derive(Clone, Copy)]
 pub struct Bytes(pub u64);
 
-#[derive(Drop)]
+#[derive(Clone, Copy)]
 pub struct Frames(pub u64);
 
 // A length in another unit, and whether it has an exact value there; 0 where it has none.
-#[derive(Drop)]
+#[derive(Clone, Copy)]
 pub struct InBits {
     pub exact: bool,
     pub bits: Bits,
 }
 
-#[derive(Drop)]
+#[derive(Clone, Copy)]
 pub struct InBytes {
     pub exact: bool,
     pub bytes: Bytes,
 }
 
-#[derive(Drop)]
+#[derive(Clone, Copy)]
 pub struct InFrames {
     pub exact: bool,
     pub frames: Frames,

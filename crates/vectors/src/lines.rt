@@ -3,7 +3,7 @@ use crate::trace::{Message, Wanted};
 use crate::{text, trace};
 
 // How many of each were compared, and how many lines differ.
-#[derive(Drop)]
+#[derive(Clone, Copy)]
 pub struct Tally {
     pub messages: u64,
     pub words: u64,
@@ -17,7 +17,7 @@ pub struct Tally {
 
 // Where the run stands: the message, whether the line before was of it, the blocks begun, and how many words of each kind were seen of
 // this block (of the message, for padded words).
-#[derive(Drop)]
+#[derive(Clone, Copy)]
 pub struct Run {
     pub message: Message,
     pub joining: bool,
@@ -31,7 +31,7 @@ pub struct Run {
 }
 
 // What a line of words came to.
-#[derive(Drop)]
+#[derive(Clone, Copy)]
 struct Seen {
     good: bool,
     words: usize,
@@ -106,7 +106,7 @@ fn words_line(run: Run, kind: u8, line: &[u8]) -> Seen {
 }
 
 // A message with more bytes, and whether they were bytes and had room.
-#[derive(Drop)]
+#[derive(Clone, Copy)]
 struct Longer {
     good: bool,
     message: Message,

@@ -1,6 +1,7 @@
 // Runs the traces of documents 003 and 004 and the examples of document 001's appendices through the proved library, from data/, and
 // prints a line for each source: how many of each kind were compared, and how many lines differ. A line that differs is named above it.
 // Then the small examples of document 01.
+#![tactic(auto)]
 use libc::STDOUT_FILENO;
 
 mod examples;

@@ -2,7 +2,7 @@
 ghost use Rattle.std.specs.Prelude.{◌≡◌, ◌+◌, ◌≤◌, min, length};
 
 // A number that was read, or ok false.
-#[derive(Drop)]
+#[derive(Clone, Copy)]
 pub struct Parsed {
     pub ok: bool,
     pub value: u32,

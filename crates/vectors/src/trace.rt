@@ -3,21 +3,21 @@ use hash::Hash;
 use standard::Words;
 
 // A message of a data file: its bytes, and how many there are.
-#[derive(Drop)]
+#[derive(Clone, Copy)]
 pub struct Message {
     pub bytes: [u8; 256],
     pub length: usize,
 }
 
 // A word, where there is one.
-#[derive(Drop)]
+#[derive(Clone, Copy)]
 pub struct Wanted {
     pub there: bool,
     pub word: u32,
 }
 
 // A block of a padded message, where there is one.
-#[derive(Drop)]
+#[derive(Clone, Copy)]
 pub struct Block {
     pub there: bool,
     pub bytes: [u8; 64],

@@ -1,4 +1,6 @@
 // Words of 32 bits: the standard's rotation and sum, and words from and to bytes, most significant first.
+#![tactic(auto)]
+
 ghost use Rattle.std.specs.Prelude.{◌≡◌, [], ◌∷◌};
 ghost use Rattle.word.specs.Rotation.{◌⊞◌, ◌<<<◌};
 ghost use Rattle.word.specs.BigEndian.{big_endian, number_of};

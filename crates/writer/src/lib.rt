@@ -1,5 +1,6 @@
 // The rank sheet of a session that is lent, and only read, written into a lent buffer. The slots are gone through twice: nothing is written
 // before all of it is known to fit.
+#![tactic(auto)]
 ghost use Rattle.std.specs.Prelude.{◌≡◌, ◌+◌, ◌*◌, ◌<◌, ◌≤◌, true, not, ◌&&◌, eqb, length};
 ghost use Rattle.slots.specs.Slots.{none, slot_in_order};
 ghost use Rattle.buffers.specs.Copy.{copied};
@@ -13,7 +14,7 @@ use session::Session;
 use slots::{NONE, Slot};
 
 // What slots come to: that no listed one is out of order, how many are listed, and how many bytes their lines have.
-#[derive(Drop)]
+#[derive(Clone, Copy)]
 struct Found {
     unspoilt: bool,
     notes: u32,
@@ -22,7 +23,7 @@ struct Found {
 
 // What is answered, where the lines begin, and how many slots are gone through for them: none where the call is refused, so that `write`
 // has no branch.
-#[derive(Drop)]
+#[derive(Clone, Copy)]
 struct Begun {
     answer: Written,
     at: usize,

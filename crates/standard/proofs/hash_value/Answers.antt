@@ -1,0 +1,6 @@
+use Rattle.standard.proofs.HashValue.{all_laid}
+use borrow.Author.Rules.{rules}
+use Rattle.standard.proofs.hash_value.Goals as goal
+
+pub returns : goal.returns
+returns c = search (all_laid, rules)

@@ -1,0 +1,7 @@
+use Rattle.std.proofs.Common.{refl, rules}
+use Rattle.word.specs.BigEndian.{big_endian}
+use Rattle.word.proofs.eight_bytes_of.Goals as goal
+
+pub returns : goal.returns
+unfolding big_endian
+returns c = refl
