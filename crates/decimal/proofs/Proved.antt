@@ -1,11 +1,11 @@
 -- The crate's promises, proved. Assumes nothing.
-use mathlib.Core.Path.{◌≡◌, refl, ap, ◌∙◌}
-use lib.ListN.{length, drop}
+use mathlib.Core.Path.{refl, ap, ◌∙◌}
+use lib.ListN.{length}
 use native.Mathlib.Nat.{zero-add}
 use Rattle.decimal.specs.Numbers.{figure, longer, IsNumber}
-use Rattle.decimal.specs.Reading.{good_numeral, numeral_at}
+use Rattle.decimal.specs.Reading.{good_numeral}
 use Rattle.decimal.specs.Writing.{decimal, figures_of}
-use Rattle.decimal.specs.Promises.{NoFigure, Promises}
+use Rattle.decimal.specs.Promises.{Promises}
 use Rattle.decimal.proofs.Numbers.{number_read, found_stands, longest_read, none_stands, one_decimal, one_value}
 use Rattle.decimal.proofs.Steps.{figure_from, figure_to, is_figure_lem}
 use Rattle.decimal.proofs.Spelling.{spells, few, at_least}

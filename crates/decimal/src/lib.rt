@@ -1,5 +1,6 @@
 // Decimal numbers as text: read at a place of a lent text, and written into a lent buffer.
 #![tactic(auto)]
+
 ghost use Rattle.std.specs.Prelude.{◌≡◌, length};
 ghost use Rattle.buffers.specs.Copy.{copied};
 ghost use Rattle.decimal.specs.Reading.{is_figure, goes_on, good_numeral, no_numeral, numeral_at};

@@ -1,6 +1,7 @@
 // The fields and lines of a rank sheet, read by place through the lent text. Each step goes on where the step before it stopped, and
 // where that one had a fault, it answers that fault: so the first fault of a line is the line's.
 #![tactic(auto)]
+
 ghost use Rattle.std.specs.Prelude.{◌≡◌};
 ghost use Rattle.hex_digits.specs.Digits.{digits};
 ghost use Rattle.lines.specs.Reading.{good_stop, fault, is_good, has_at, mark_at, word_at, mark_after, word_after};

@@ -62,6 +62,6 @@ module _ (m b : Bor (List ℕ)) (i : ℕ) (p : Place) (e : p ≡ view_place m.no
   unfolding view_address
   message_address h = rw (← e, eq-eqb p.which in_message h)
 
-  pub buffer_address : (p.which ≡ in_message → ⊥) → (b.ptr.0, p.offset + b.ptr.1) ≡ view_address m b i
+  pub buffer_address : (p.which ≡ in_message → ⊥) → (b.ref_ptr.0, p.offset + b.ref_ptr.1) ≡ view_address m b i
   unfolding view_address
   buffer_address h = rw (← e, ne_eqb p.which in_message h)

@@ -45,5 +45,5 @@ view_part message buffer i =
 unfoldable pub view_address : Bor (List ℕ) → Bor (List ℕ) → ℕ → ℕ × ℕ
 view_address message buffer i =
     let p = view_place message.now buffer.now i in
-    let lent = cond (eqb p.which in_message) message.ptr buffer.ptr in
+    let lent = cond (eqb p.which in_message) message.ref_ptr buffer.ref_ptr in
     (lent.0, p.offset + lent.1)

@@ -1,5 +1,6 @@
 // The names of a rank's files, and the paths to them.
 #![tactic(auto)]
+
 ghost use Rattle.std.specs.Prelude.{◌≡◌};
 ghost use Rattle.paths.specs.Names.{sheet_name, note_name, path_of};
 

@@ -1,5 +1,6 @@
 // Texts to print, put together by value before anything is written out.
 #![tactic(auto)]
+
 ghost use Rattle.std.specs.Prelude.{◌≡◌};
 ghost use Rattle.decimal.specs.Writing.{decimal};
 ghost use Rattle.texts.specs.Texts.{empty_text, with_part};

@@ -1,7 +1,7 @@
 -- `figures_of` lays the figures, the last one first. Assumes nothing.
 use native.Mathlib.Omega.{arith}
 use borrow.Author.Rules.{rules}
-use Rattle.decimal.proofs.Laying.{Laid, laid_first, some_room, laid_next, laid_all}
+use Rattle.decimal.proofs.Laying.{laid_first, some_room, laid_next, laid_all}
 use Rattle.decimal.proofs.figures_of.Goals as goal
 
 pub loop-left-init : goal.loop-left-init

@@ -1,7 +1,5 @@
 -- `figures_of` lays the figures, the last one first. Assumes nothing.
-use native.Mathlib.Omega.{arith}
-use borrow.Author.Rules.{rules}
-use Rattle.decimal.proofs.Laying.{Laid, laid_first, some_room, laid_next, laid_all}
+use Rattle.decimal.proofs.Laying.{Laid}
 use Rattle.decimal.proofs.figures_of.Given as goal
 
 abbrev pub invariant-loop-left : goal.invariant-loop-left

@@ -3,7 +3,6 @@ use mathlib.Core.Path.{sym, ◌∙◌}
 use borrow.Author.Tests.{lt-leb}
 use Rattle.truth.proofs.Tests.{refuted, confirmed}
 use Rattle.decimal.proofs.Steps.{figure_from, goes_not, goes_zero, goes_by}
-use borrow.Author.Rules.{rules}
 use Rattle.decimal.proofs.goes_on.Goals as goal
 
 pub returns-then-not-is_figure : goal.returns-then-not-is_figure

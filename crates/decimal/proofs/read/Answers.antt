@@ -1,11 +1,8 @@
 -- `read` reads a number. The invariant: the number is the one that goes on from the next reached with the value reached.
 -- Assumes nothing.
-use Prim.Native.Nat.{◌≤◌, ◌-◌}
-use mathlib.Core.Path.{◌≡◌, sym, ◌∙◌}
+use mathlib.Core.Path.{sym, ◌∙◌}
 use native.Mathlib.Omega.{arith}
-use lib.ListN.{length, drop}
 use Rattle.truth.proofs.Tests.{refuted, confirmed}
-use Rattle.decimal.specs.Reading.{numeral_at, going_on}
 use Rattle.decimal.proofs.Steps.{figure_from, figure_to, goes_figure, goes_fits, number_past, number_not, number_begins, goes_more, goes_stop, goes_end}
 use borrow.Author.Rules.{rules}
 use Rattle.decimal.proofs.read.Goals as goal

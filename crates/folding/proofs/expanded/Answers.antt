@@ -17,7 +17,7 @@ loop-j-preserved c =
       c.turn.ensures.0,
       search rules,
       c.turn.ensures.1 _ at.invariant.3,
-      word_seen _ at.w-1 at.all at.j (search rules) at.invariant.2 at.invariant.3 at.invariant.4,
+      word_seen _ at.w at.all at.j (search rules) at.invariant.2 at.invariant.3 at.invariant.4,
     )
 
 pub returns : goal.returns

@@ -10,13 +10,6 @@ use Rattle.word.proofs.BigEndian.{length_bigEndian}
 use Rattle.padding.proofs.Stores.{closed}
 use Rattle.padding.proofs.close.Goals as goal
 
-pub shape_of-dst : goal.shape_of-dst
-shape_of-dst c =
-    let copy = c in
-    let number = copy in
-    let clear = number in
-    copy.copy.auto.0 ∙ clear.clear.auto.0 ∙ simp length-set
-
 pub returns : goal.returns
 returns c =
     let copy = c in

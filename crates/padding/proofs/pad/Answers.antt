@@ -7,7 +7,10 @@ use Rattle.padding.proofs.pad.Goals as goal
 pub returns-then-answer-ne-ACCEPTED : goal.returns-then-answer-ne-ACCEPTED
 returns-then-answer-ne-ACCEPTED c =
     let answer = c.tail_answer-answer in
-    (answer.ensures, left_alone _ _ answer.result answer.ensures c.if-answer-ne-ACCEPTED.true)
+    record {
+      value = answer.ensures;
+      buffer_after = left_alone _ _ answer.result answer.ensures c.if-answer-ne-ACCEPTED.true;
+    }
 
 pub overflow_sub-answer : goal.overflow_sub-answer
 overflow_sub-answer c =
@@ -26,8 +29,8 @@ returns c =
     let close = c in
     let bits = close.bits-length in
     let test = close in
-    let answer = test.tail_answer-answer in (
-      answer.ensures,
-      close.close.ensures
-          ∙ padded_behind _ _ answer.result answer.ensures test.if-answer-ne-ACCEPTED.false bits.result bits.ensures,
-    )
+    let answer = test.tail_answer-answer in record {
+      value = answer.ensures;
+      buffer_after = close.close.ensures
+          ∙ padded_behind _ _ answer.result answer.ensures test.if-answer-ne-ACCEPTED.false bits.result bits.ensures;
+    }

@@ -9,7 +9,10 @@ pub returns-then-foreseen-ne-ACCEPTED : goal.returns-then-foreseen-ne-ACCEPTED
 unfolding written
 returns-then-foreseen-ne-ACCEPTED c =
     let answer = c.tail_answer-foreseen in
-    (answer.ensures, unwritten _ _ answer.result answer.ensures c.if-foreseen-ne-ACCEPTED.true)
+    record {
+      value = answer.ensures;
+      buffer_after = unwritten _ _ answer.result answer.ensures c.if-foreseen-ne-ACCEPTED.true;
+    }
 
 pub returns : goal.returns
 returns c =
@@ -19,7 +22,7 @@ returns c =
     let start = test in
     let answer = test.tail_answer-foreseen in
     let message = start.args.message.now in
-    let buffer = start.args.buffer.now in (
-      pad.pad.ensures.0 ∙ written_is message buffer answer.result answer.ensures test.if-foreseen-ne-ACCEPTED.false copy.copy.new.0 copy.copy.ensures,
-      pad.pad.ensures.1 ∙ written_leaves message buffer answer.result answer.ensures test.if-foreseen-ne-ACCEPTED.false copy.copy.new.0 copy.copy.ensures,
-    )
+    let buffer = start.args.buffer.now in record {
+      value = pad.pad.ensures.value ∙ written_is message buffer answer.result answer.ensures test.if-foreseen-ne-ACCEPTED.false copy.copy.new.dst copy.copy.ensures;
+      buffer_after = pad.pad.ensures.buffer_after ∙ written_leaves message buffer answer.result answer.ensures test.if-foreseen-ne-ACCEPTED.false copy.copy.new.dst copy.copy.ensures;
+    }

@@ -1,0 +1,10 @@
+-- `mark_after` goes on behind a step that stopped well. Assumes nothing.
+use mathlib.Core.Path.{sym, ◌∙◌}
+use Rattle.lines.proofs.Marks.{mark_goes, mark_stays}
+use Rattle.lines.proofs.mark_after.Goals as goal
+
+pub returns-then-is_good : goal.returns-then-is_good
+returns-then-is_good c = c.mark_at.ensures ∙ sym (mark_goes _ _ _ _ (sym c.is_good.ensures ∙ c.if-is_good.true))
+
+pub returns-else-is_good : goal.returns-else-is_good
+returns-else-is_good c = sym (mark_stays _ _ _ _ (sym c.is_good.ensures ∙ c.if-is_good.false))
