@@ -10,10 +10,10 @@ pub bounds-self-index : goal.bounds-self-index
 bounds-self-index c = rw c.slot_index-index.ensures (index_lt _)
 
 pub offset_bounds-self-index : goal.offset_bounds-self-index
-offset_bounds-self-index c = let low = copy c in search rules
+offset_bounds-self-index c = let low = bounds-self-index c in search rules
 
 pub returns : goal.returns
 returns c =
     let start = c in
-    let all : length start.args.t1.slots ≡ 32 = search (rules, length_of_image) in
+    let all : length start.args.self.slots ≡ 32 = search (rules, length_of_image) in
     c.ask_at.ensures ∙ asked_there _ _ all _ _ c.slot_index-index.ensures
