@@ -8,7 +8,7 @@ use mathlib.Core.Path.{◌≡◌, sym, ap, subst}
 use Prim.Native.Nat.{ℕ, zero, suc}
 use mathlib.Core.List.{List, [], ◌∷◌, ◌++◌}
 use seplogic.Ra.Ura.{Ura}
-use mir.Syntax.{Name, Place, Opd as Operand, Body, seq, call}
+use mir.Syntax.{Callee as Called, Place, Opd as Operand, Body, seq, call}
 use mir.Val.{Val}
 use base.Logic.{ent, sep, emp, id⊢, via, mono_l, mono_r, comm∗, emp∗}
 use base.Fml.{flft}
@@ -36,7 +36,7 @@ module _ {M : Type 1} (𝓤 : Ura M) where
 
   abbrev pub each : (Rs : List RattleType) → Denots Rs → Valss Rs → List (Item 𝓤)
   each [] a vss = []
-  each (R ∷ Rs) a vss = ‵ (R.own a.0 vss.0) ∷ each Rs a.1 vss.1
+  each (R ∷ Rs) a vss = ‵ (R.own_val a.0 vss.0) ∷ each Rs a.1 vss.1
 
 module _ {M : Type 1} {𝓤 : Ura M} (𝓛 : Logic 𝓤) where
   open 𝓛 use {A}
@@ -51,11 +51,11 @@ module _ {M : Type 1} {𝓤 : Ura M} (𝓛 : Logic 𝓤) where
 
   pub owns_in : (Rs : List RattleType) (a : Denots Rs) (vss : Valss Rs) → ent 𝓤 (⋆ 𝓛 (each 𝓤 Rs a vss)) (sem 𝓛 (owns Rs a vss))
   owns_in [] a vss = id⊢ 𝓤 (emp 𝓤)
-  owns_in (R ∷ Rs) a vss = via 𝓤 _ (pop 𝓛 (‵ (R.own a.0 vss.0)) (each 𝓤 Rs a.1 vss.1)) (mono_r 𝓤 (sem 𝓛 (R.own a.0 vss.0)) (owns_in Rs a.1 vss.1))
+  owns_in (R ∷ Rs) a vss = via 𝓤 _ (pop 𝓛 (‵ (R.own_val a.0 vss.0)) (each 𝓤 Rs a.1 vss.1)) (mono_r 𝓤 (sem 𝓛 (R.own_val a.0 vss.0)) (owns_in Rs a.1 vss.1))
 
   pub owns_out : (Rs : List RattleType) (a : Denots Rs) (vss : Valss Rs) → ent 𝓤 (sem 𝓛 (owns Rs a vss)) (⋆ 𝓛 (each 𝓤 Rs a vss))
   owns_out [] a vss = id⊢ 𝓤 (emp 𝓤)
-  owns_out (R ∷ Rs) a vss = via 𝓤 _ (mono_r 𝓤 (sem 𝓛 (R.own a.0 vss.0)) (owns_out Rs a.1 vss.1)) (push 𝓛 (‵ (R.own a.0 vss.0)) (each 𝓤 Rs a.1 vss.1))
+  owns_out (R ∷ Rs) a vss = via 𝓤 _ (mono_r 𝓤 (sem 𝓛 (R.own_val a.0 vss.0)) (owns_out Rs a.1 vss.1)) (push 𝓛 (‵ (R.own_val a.0 vss.0)) (each 𝓤 Rs a.1 vss.1))
 
   -- what stands behind the tokens, put before them
   pub front : (n : ℕ) (κs : Lfts n) (qs : Shares n) (i : Item 𝓤) → ent 𝓤 (⋆ 𝓛 (raw (toks 𝓛 n κs qs) ∷ i ∷ [])) (⋆ 𝓛 (i ∷ tokens 𝓤 n κs qs))
@@ -97,7 +97,7 @@ module _ {M : Type 1} {𝓤 : Ura M} (𝓛 : Logic 𝓤) (T : Ended) (κs : Lfts
         via 𝓤 (sep 𝓤 (emp 𝓤) (on_entry 𝓛 T.signature κs qs a vss)) (via 𝓤 _ (entry_in 𝓛 T κs qs a vss) (emp∗ 𝓤 _))
         (via 𝓤 _ (mono_l 𝓤 (on_entry 𝓛 T.signature κs qs a vss) h) (comm∗ 𝓤 ((c κs a).requires g) (on_entry 𝓛 T.signature κs qs a vss)))
 
-    module _ {K : Type 0} {Γ : List (Item 𝓤)} {E : Env 𝓤 H} {C : Calls 𝓤 H} {Λ : Loops 𝓤 H} {q : Post 𝓤 H} {f : Name} {xs : List Operand} {d : Place} {rest : Body} where
+    module _ {K : Type 0} {Γ : List (Item 𝓤)} {E : Env 𝓤 H} {C : Calls 𝓤 H} {Λ : Loops 𝓤 H} {q : Post 𝓤 H} {f : Called} {xs : List Operand} {d : Place} {rest : Body} where
       pub asks_last : (Q : Res T.signature κs → Lasts T κs a → Type 0) → K → FmC 𝓤 H 𝓛.laws C → Triple 𝓤 (C f) Callee → ent 𝓤 (emp 𝓤) ((c κs a).requires g)
           → ((r : Res T.signature κs) (ws : Lasts T κs a) → ent 𝓤 ((c κs a).ensures g r (at_exit T κs a ws)) (fact 𝓤 (Q r ws)))
           → Opds K 𝓛 (raw (Callee.pre to) ∷ Γ) E xs (flat (types_at T.signature.params κs) vss)
@@ -110,13 +110,13 @@ module _ {M : Type 1} {𝓤 : Ura M} (𝓛 : Logic 𝓤) (T : Ended) (κs : Lfts
           let Live : Item 𝓤 = raw (alive 𝓛 T.signature κs qs) in
           cut (passing 𝓛 T κs qs a vss) (raw (Callee.pre to) ∷ []) Γ (asked needs) $
           calls_at t fm Callee known to os (λ u.
-          use1 𝓛 (later (some (λ (r : R.Denot). (Live ⊛ ‵ (R.own r (u ∷ []))) ⊛ some (λ (ws : Lasts T κs a). ‵ (lasts T κs a ws) ⊛ raw ((c κs a).ensures g r (at_exit T κs a ws)))))) (id⊢ 𝓤 _) $ await t tt $ pick t (λ r.
+          use1 𝓛 (later (some (λ (r : R.Denot). (Live ⊛ ‵ (R.own_val r (u ∷ []))) ⊛ some (λ (ws : Lasts T κs a). ‵ (lasts T κs a ws) ⊛ raw ((c κs a).ensures g r (at_exit T κs a ws)))))) (id⊢ 𝓤 _) $ await t tt $ pick t (λ r.
           split t $ move t (1 ∷ []) $ pick t (λ ws. split t $ move t (1 ∷ []) $ use1 𝓛 (raw (fact 𝓤 (Q r ws))) (ensures r ws) $ heard t (Q r ws) (λ e. move t (1 ∷ []) $ split t $
           move t (1 ∷ []) $ peeks t R (Is R) (shows 𝓛 R) r (u ∷ []) (λ is. move t (1 ∷ 2 ∷ []) $
-          cut (Live ∷ ‵ (lasts T κs a ws) ∷ []) (‵ (lasts T κs a ws) ∷ Ts) (‵ (R.own r (u ∷ [])) ∷ Γ) (front 𝓛 T.signature.lifetimes κs qs (‵ (lasts T κs a ws))) $
-          subst (λ (w : Val). Seq K 𝓛 (‵ (lasts T κs a ws) ∷ (Ts ++ (‵ (R.own r (w ∷ [])) ∷ Γ))) (lands C Λ E d w rest q)) (sym (ap only (tells r (u ∷ []) is))) (k r ws e (subst (λ (vs : List Val). Is R r vs) (tells r (u ∷ []) is) is)))))))
+          cut (Live ∷ ‵ (lasts T κs a ws) ∷ []) (‵ (lasts T κs a ws) ∷ Ts) (‵ (R.own_val r (u ∷ [])) ∷ Γ) (front 𝓛 T.signature.lifetimes κs qs (‵ (lasts T κs a ws))) $
+          subst (λ (w : Val). Seq K 𝓛 (‵ (lasts T κs a ws) ∷ (Ts ++ (‵ (R.own_val r (w ∷ [])) ∷ Γ))) (lands C Λ E d w rest q)) (sym (ap only (tells r (u ∷ []) is))) (k r ws e (subst (λ (vs : List Val). Is R r vs) (tells r (u ∷ []) is) is)))))))
 
-    module _ (Q : Res T.signature κs → Type 0) {K : Type 0} {Γ : List (Item 𝓤)} {E : Env 𝓤 H} {C : Calls 𝓤 H} {Λ : Loops 𝓤 H} {q : Post 𝓤 H} {f : Name} {xs : List Operand} {d : Place} {rest : Body} where
+    module _ (Q : Res T.signature κs → Type 0) {K : Type 0} {Γ : List (Item 𝓤)} {E : Env 𝓤 H} {C : Calls 𝓤 H} {Λ : Loops 𝓤 H} {q : Post 𝓤 H} {f : Called} {xs : List Operand} {d : Place} {rest : Body} where
       pub asks : K → FmC 𝓤 H 𝓛.laws C → Triple 𝓤 (C f) Callee → ent 𝓤 (emp 𝓤) ((c κs a).requires g)
           → ((r : Res T.signature κs) (ws : Lasts T κs a) → ent 𝓤 ((c κs a).ensures g r (at_exit T κs a ws)) (fact 𝓤 (Q r)))
           → Opds K 𝓛 (raw (Callee.pre to) ∷ Γ) E xs (flat (types_at T.signature.params κs) vss)

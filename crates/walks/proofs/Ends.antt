@@ -11,7 +11,7 @@ use mir.Val.{Val}
 use base.Logic.{SProp, ent, sep, emp, id⊢, via, mono_l, mono_r, comm∗, emp∗, fst∗}
 use prog.Wp.{WpFn, Closed}
 use prog.Model.{Model}
-use prog.Routine.{Name, Env}
+use prog.Routine.{Callee, Env}
 use types.Logic.{Logic, sem}
 use sound.WpLaws.{FmC, fm_of, WpFn-mono}
 use contract.Lifetimes.{Lfts, Shares, AllOutlive}
@@ -63,7 +63,7 @@ module _ {M : Type 1} {𝓤 : Ura M} (𝓛 : Logic 𝓤) (T : Ended) (hs : Stays
         (via 𝓤 _ (via 𝓤 (sep 𝓤 (emp 𝓤) Out) (emp∗ 𝓤 Out) (via 𝓤 _ (mono_l 𝓤 Out says) (comm∗ 𝓤 ((c κs y.0.3).ensures y.1 r (at_exit T κs y.0.3 ws)) Out)))
         (ends_at 𝓛 T hs c y v r ws fits))
 
-module _ {M : Type 1} {𝓤 : Ura M} (𝓛 : Logic 𝓤) (𝓜 : Model 𝓤 𝓛.H) (𝓡 : Running 𝓤 𝓛.H 𝓜) (γ : Env) (T : Ended) (hs : Stays T.signature.params T.kept) (c : Clauses 𝓤 T) (k : Name) (e : Fn) where
+module _ {M : Type 1} {𝓤 : Ura M} (𝓛 : Logic 𝓤) (𝓜 : Model 𝓤 𝓛.H) (𝓡 : Running 𝓤 𝓛.H 𝓜) (γ : Env) (T : Ended) (hs : Stays T.signature.params T.kept) (c : Clauses 𝓤 T) (k : Callee) (e : Fn) where
   open 𝓛 use {H}
 
   pub stands : Closed 𝓤 H (tables 𝓤 H 𝓜 𝓡 γ).C (tables 𝓤 H 𝓜 𝓡 γ).Λ k e

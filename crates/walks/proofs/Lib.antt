@@ -7,4 +7,3 @@ pub mod Lend
 pub mod Slices
 pub mod Loops
 pub mod Ends
-pub mod Taking

@@ -11,7 +11,7 @@ use mathlib.Core.Bool.{Bool, true, false}
 use mathlib.Core.List.{List, [], ◌∷◌}
 use lib.WfN.{lt-wf_rel}
 use seplogic.Ra.Ura.{Ura}
-use mir.Syntax.{Ty, Local, local, Opd as Operand, Body, skip, seq, assign, block, loop, cond, switch, exit, return, call}
+use mir.Syntax.{Ty, Local, local, Opd as Operand, Body, skip, seq, assign, block, loop, cond, switch, exit, return, call, unreachable, call_v, lend_static}
 use mir.Val.{vbool}
 use base.Logic.{SProp, via, guard, guard_i, ex_i}
 use prog.Wp.{Env, Calls, Loops, Tables, after_turn, exits}
@@ -31,6 +31,9 @@ after (switch c arms) = skip
 after (exit n) = skip
 after return = skip
 after (call f xs d) = skip
+after unreachable = skip
+after (call_v f s xs d) = skip
+after (lend_static p t c) = skip
 
 abbrev pub env_of : List Local → List ℕ → List (Ty × ℕ)
 env_of [] ns = []

@@ -1,7 +1,7 @@
 -- The words of a walk, from the places where the logic has them, so that a walk names one file for them.
 -- The logic's terms
 pub use seplogic.Ra.Ura.{Ura}
-pub use seplogic.Ra.TreeShare.{full_share}
+pub use base.Fraction.{full_share}
 pub use mir.Syntax.{named, erased, w8, w32, w64, ty_int}
 pub use mir.Val.{Val, vunit, vbool, vint, vptr}
 pub use base.Logic.{SProp, ent, sep, emp, id⊢}
@@ -13,9 +13,9 @@ pub use ghost.Atoms.{Atoms}
 pub use sound.WpLaws.{FmC, fm_of}
 pub use contract.Lifetimes.{Lfts, Shares}
 pub use contract.Monad.{Fun, fact_i}
-pub use contract.Running.{given_of, tables}
+pub use contract.Running.{tables}
 -- The calculus, and the statements of MIR in it
-pub use types.Kit.{Given, Item, ‵, raw, ◌⊛◌, ◌$◌, ◌∵◌, !, qed, given, learn, by, move, keep, drop, use1, use2, split, join, fsplit, fjoin, rewrite, feq_i, at_ret}
+pub use types.Kit.{Item, ‵, raw, ◌⊛◌, ◌$◌, ◌∵◌, !, qed, given, learn, by, move, keep, drop, use1, use2, split, join, fsplit, fjoin, rewrite, feq_i, at_ret}
 pub use types.Run.{look, store, init, forget, stop, hop, fld, from, load, lit, unit_lit, of_opd, and_then, no_more, addr, bin, assigns, assigns_last, land, first, blocks, exec, returns, enter, alloc1, alloc0, params1, pass1, pass0, free0}
 pub use types.Part.{whole, sub, look_in, store_in, agg}
 -- Types, and what is had of a parameter at exit

@@ -1,0 +1,17 @@
+-- `filled` lists note after note. The invariant: the session of all lines is that of the lines that are left over the one reached.
+-- Assumes nothing.
+use Prim.Native.Nat.{◌≤◌, ◌<◌, ◌-◌}
+use mathlib.Core.Path.{◌≡◌, ◌∙◌}
+use native.Mathlib.Omega.{arith}
+use Rattle.session.specs.Sessions.{empty_session}
+use Rattle.sheet.specs.Judging.{entries_at, with_notes}
+use Rattle.sheet.proofs.Filling.{of_slots, lists_first, lists_one, lists_all, listing_lt}
+use borrow.Author.Rules.{rules}
+use Rattle.sheet.proofs.filled.Given as goal
+
+abbrev pub invariant-loop-i : goal.invariant-loop-i
+invariant-loop-i l =
+    (l.i ≤ l.notes) × (with_notes empty_session (entries_at l.notes l.text l.at) ≡ with_notes (of_slots l.slots) (entries_at (l.notes - l.i) l.text l.next))
+
+abbrev pub decreases-loop-i : goal.decreases-loop-i
+decreases-loop-i l = l.notes - l.i
