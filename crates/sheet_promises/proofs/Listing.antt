@@ -49,6 +49,7 @@ module _ (last : ℕ) (e : Entry) (o : ObeysRules last e) where
 
 -- entries that obey the rules are above the note before them
 pub above : (last : ℕ) (es : List Entry) → AllObey last es → (e : Entry) → Among e es → last < e.note
+above _ _ (no_entry_lem {last = last}) e among = elim among [ ]
 above last es (entry o os) e first = rises last e o
 above last es (entry {e = d} {es = more} o os) e (further a) = let up : d.note < e.note = above d.note more os e a in let down : last < d.note = rises last d o in omega arith
 
@@ -71,6 +72,7 @@ others_keep s last (e ∷ es) (entry o os) note is none =
 pub own_slot : (s : Session) (last : ℕ) (es : List Entry) → length s.slots ≡ 32 → AllObey last es → (e : Entry) → Among e es
     → slot_of (with_notes s es) e.note ≡ waiting_slot e.sample
 unfolding with_notes
+own_slot s _ _ size (no_entry_lem {last = last}) e among = elim among [ ]
 own_slot s last es size (entry {es = more} o os) e first =
     others_keep (with_entry s e) e.note more os e.note (is_a_note last e o) (λ d a same. let over : e.note < d.note = above e.note more os d a in omega arith)
     ∙ own s e size
