@@ -109,7 +109,7 @@ module _ (s : Session) (fit : CountsFit s) (note : ℕ) (piece : List ℕ) where
 pub kept_all : (s : Session) (os : List Operation) → CountsFit s → CountsFit (after s os)
 unfolding after
 kept_all s [] fit = fit
-kept_all s (delivery note piece ∷ os) fit = kept_all _ os (rw (session.delivers s note piece) (one_kept s fit note piece))
+kept_all s (delivery note piece ∷ os) fit = kept_all (perform s (delivery note piece)).session os (rw (session.delivers s note piece) (one_kept s fit note piece))
 
 pub stays_lit : (s : Session) (os : List Operation) → CountsFit s → ready s ≡ true → after s os ≡ s
 unfolding after
@@ -121,4 +121,4 @@ stays_lit s (delivery note piece ∷ os) fit lit =
 pub listed_after : (s : Session) (os : List Operation) → (after s os).listed ≡ s.listed
 unfolding after
 listed_after s [] = refl
-listed_after s (delivery note piece ∷ os) = listed_after _ os ∙ rw (session.delivers s note piece) (session.counts s note piece).listed
+listed_after s (delivery note piece ∷ os) = listed_after (perform s (delivery note piece)).session os ∙ rw (session.delivers s note piece) (session.counts s note piece).listed

@@ -17,7 +17,7 @@ use Rattle.rules.specs.declared.Record.{Record}
 use Rattle.session.specs.declared.Session.{Session}
 use Rattle.sheet.specs.Judging.{sheet_of}
 use Rattle.lines.specs.declared.Entry.{Entry}
-use Rattle.sheet_promises.specs.Grammar.{ObeysRules, AllObey, entry, IsSheet}
+use Rattle.sheet_promises.specs.Grammar.{no_entry_lem, ObeysRules, AllObey, entry, IsSheet}
 use Rattle.sheet_promises.specs.Promises.{Among, first, further}
 use Rattle.sheet_promises.proofs.Records.{rules_of, digest_of}
 use Rattle.slots.proofs.Proved.{proved as slot}
@@ -36,6 +36,7 @@ pub record Lists (s : Session) (note : ℕ) (r : Record) : Type 0 where
 
 -- what each entry obeys, after the note before it
 obeyed : {last : ℕ} {es : List Entry} → AllObey last es → (e : Entry) → Among e es → (before : ℕ) × ObeysRules before e
+obeyed (no_entry_lem {last = last}) e among = elim among [ ]
 obeyed {last} (entry o os) e first = (last, o)
 obeyed (entry o os) e (further a) = obeyed os e a
 
