@@ -1,5 +1,6 @@
 // Steps on lent bytes: compared, copied, cleared.
 #![tactic(auto)]
+
 ghost use Rattle.std.specs.Prelude.{◌≡◌, ◌+◌, ◌-◌, ◌≤◌, length, replicate};
 ghost use Rattle.std.proofs.Math.Seq.{paste};
 ghost use Rattle.buffers.specs.Same.{same, all_zero};

@@ -7,26 +7,24 @@ use lib.ListN.{replicate}
 use Rattle.buffers.specs.Same.{same as equal, all_zero}
 use Rattle.buffers.specs.Copy.{copied}
 use Rattle.coincide.specs.Coincide.{CoincideAt, Means, Answers}
-use Rattle.buffers.proofs.same as same'
-use Rattle.buffers.proofs.all_zero as all_zero'
-use Rattle.buffers.proofs.copy as copy'
-use Rattle.buffers.proofs.clear as clear'
+use Rattle.buffers.specs.contracts
+use Rattle.buffers.proofs
 
-pub copy : CoincideAt copy'.ended (List ℕ) (λ κs e. e.0.now) copy'.Reads.Post
+pub copy : CoincideAt contracts.copy.ended (List ℕ) (λ κs e. e.0.now) proofs.copy.Reads.Post
 copy κs a x y e f p q = (refl, p ∙ sym q)
 
-pub clear : CoincideAt clear'.ended (List ℕ) (λ κs e. e.0.now) clear'.Reads.Post
+pub clear : CoincideAt contracts.clear.ended (List ℕ) (λ κs e. e.0.now) proofs.clear.Reads.Post
 clear κs a x y e f p q = (refl, p ∙ sym q)
 
-pub same_means : Answers same'.ended same'.Reads.Post (λ κs a. equal a.0.now a.1.0.now)
+pub same_means : Answers contracts.same.ended proofs.same.Reads.Post (λ κs a. equal a.0.now a.1.0.now)
 same_means κs a r e = Iff.rfl
 
-pub all_zero_means : Answers all_zero'.ended all_zero'.Reads.Post (λ κs a. all_zero a.0.now)
+pub all_zero_means : Answers contracts.all_zero.ended proofs.all_zero.Reads.Post (λ κs a. all_zero a.0.now)
 all_zero_means κs a r e = Iff.rfl
 
-pub copy_means : Means copy'.ended copy'.Reads.Post (λ κs a r e. e.0.now ≡ copied a.0.now a.1.0 a.1.1.0.now)
+pub copy_means : Means contracts.copy.ended proofs.copy.Reads.Post (λ κs a r e. e.0.now ≡ copied a.0.now a.1.0 a.1.1.0.now)
 copy_means κs a r e = Iff.rfl
 
-pub clear_means : Means clear'.ended clear'.Reads.Post
+pub clear_means : Means contracts.clear.ended proofs.clear.Reads.Post
     (λ κs a r e. e.0.now ≡ copied a.0.now a.1.0 (replicate (a.1.1.0 - a.1.0) 0))
 clear_means κs a r e = Iff.rfl

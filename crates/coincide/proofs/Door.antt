@@ -30,223 +30,195 @@ use Rattle.mac.proofs.Proved.{proved as codes}
 use Rattle.keyed_promises.specs.Answers.{Answered}
 use Rattle.keyed_promises.proofs.Proved.{proved as keyed}
 use Rattle.coincide.proofs.Coding.{taken, keyed_whole}
-use Rattle.door.specs.contracts.vs_update_in_place as vs_update_in_place'
-use Rattle.door.specs.contracts.vs_deliver_in_place as vs_deliver_in_place'
-use Rattle.door.specs.contracts.vs_ask_in_place as vs_ask_in_place'
-use Rattle.door.specs.contracts.vs_ready as vs_ready'
-use Rattle.door.specs.contracts.vs_sheet_read_in_place as vs_sheet_read_in_place'
-use Rattle.door.specs.contracts.vs_sheet_write as vs_sheet_write'
-use Rattle.door.proofs.vs_fold as vs_fold'
-use Rattle.door.proofs.vs_fresh as vs_fresh'
-use Rattle.door.proofs.vs_update as vs_update'
-use Rattle.door.proofs.vs_finish as vs_finish'
-use Rattle.door.proofs.vs_digest_of as vs_digest_of'
-use Rattle.door.proofs.vs_compare_message as vs_compare_message'
-use Rattle.door.proofs.vs_compare_state as vs_compare_state'
-use Rattle.door.proofs.vs_pad_write as vs_pad_write'
-use Rattle.door.proofs.vs_block_number as vs_block_number'
-use Rattle.door.proofs.vs_block_part as vs_block_part'
-use Rattle.door.proofs.vs_remove_number as vs_remove_number'
-use Rattle.door.proofs.vs_remove_part as vs_remove_part'
-use Rattle.door.proofs.vs_sheet_read as vs_sheet_read'
-use Rattle.door.proofs.vs_deliver as vs_deliver'
-use Rattle.door.proofs.vs_ask as vs_ask'
-use Rattle.door.proofs.vs_code_start as vs_code_start'
-use Rattle.door.proofs.vs_code_update as vs_code_update'
-use Rattle.door.specs.contracts.vs_code_update_in_place as vs_code_update_in_place'
-use Rattle.door.proofs.vs_code_finish as vs_code_finish'
-use Rattle.door.proofs.vs_code_of as vs_code_of'
-use Rattle.door.proofs.vs_compare_code as vs_compare_code'
-use Rattle.door.proofs.vs_compare_code_of as vs_compare_code_of'
-use Rattle.door.proofs.vs_keyed_read as vs_keyed_read'
-use Rattle.door.specs.contracts.vs_keyed_read_in_place as vs_keyed_read_in_place'
+use Rattle.door.specs.contracts
+use Rattle.door.proofs
 
-abbrev pub vs_update_in_place_says : Says vs_update_in_place'.ended (λ M. vs_update_in_place'.clauses {M = M})
-vs_update_in_place_says = record { claim = _; stated = λ M 𝓤 𝓛 mem run κs a g r e. refl }
+abbrev pub vs_update_in_place_says : Says contracts.vs_update_in_place.ended (λ M 𝓤. contracts.vs_update_in_place.clauses {M = M} {𝓤 = 𝓤})
+vs_update_in_place_says = record { claim = proofs.vs_update_in_place.Reads.Post; stated = λ M 𝓤 𝓛 mem run κs a g r e. refl }
 
-pub vs_update_in_place : CoincideAt vs_update_in_place'.ended Hash (λ κs e. e.0.now) vs_update_in_place_says.claim
+pub vs_update_in_place : CoincideAt contracts.vs_update_in_place.ended Hash (λ κs e. e.0.now) vs_update_in_place_says.claim
 vs_update_in_place κs a x y e f p q = (p.0 ∙ sym q.0, p.1 ∙ sym q.1)
 
-abbrev pub vs_deliver_in_place_says : Says vs_deliver_in_place'.ended (λ M. vs_deliver_in_place'.clauses {M = M})
-vs_deliver_in_place_says = record { claim = _; stated = λ M 𝓤 𝓛 mem run κs a g r e. refl }
+abbrev pub vs_deliver_in_place_says : Says contracts.vs_deliver_in_place.ended (λ M 𝓤. contracts.vs_deliver_in_place.clauses {M = M} {𝓤 = 𝓤})
+vs_deliver_in_place_says = record { claim = proofs.vs_deliver_in_place.Reads.Post; stated = λ M 𝓤 𝓛 mem run κs a g r e. refl }
 
-pub vs_deliver_in_place : CoincideAt vs_deliver_in_place'.ended Session (λ κs e. e.0.now) vs_deliver_in_place_says.claim
+pub vs_deliver_in_place : CoincideAt contracts.vs_deliver_in_place.ended Session (λ κs e. e.0.now) vs_deliver_in_place_says.claim
 vs_deliver_in_place κs a x y e f p q = (p.0 ∙ sym q.0, p.1 ∙ sym q.1)
 
-abbrev pub vs_ask_in_place_says : Says vs_ask_in_place'.ended (λ M. vs_ask_in_place'.clauses {M = M})
-vs_ask_in_place_says = record { claim = _; stated = λ M 𝓤 𝓛 mem run κs a g r e. refl }
+abbrev pub vs_ask_in_place_says : Says contracts.vs_ask_in_place.ended (λ M 𝓤. contracts.vs_ask_in_place.clauses {M = M} {𝓤 = 𝓤})
+vs_ask_in_place_says = record { claim = proofs.vs_ask_in_place.Reads.Post; stated = λ M 𝓤 𝓛 mem run κs a g r e. refl }
 
-pub vs_ask_in_place : Coincide vs_ask_in_place'.ended vs_ask_in_place_says.claim
+pub vs_ask_in_place : Coincide contracts.vs_ask_in_place.ended vs_ask_in_place_says.claim
 vs_ask_in_place κs a x y e f p q = p ∙ sym q
 
-abbrev pub vs_ready_says : Says vs_ready'.ended (λ M. vs_ready'.clauses {M = M})
-vs_ready_says = record { claim = _; stated = λ M 𝓤 𝓛 mem run κs a g r e. refl }
+abbrev pub vs_ready_says : Says contracts.vs_ready.ended (λ M 𝓤. contracts.vs_ready.clauses {M = M} {𝓤 = 𝓤})
+vs_ready_says = record { claim = proofs.vs_ready.Reads.Post; stated = λ M 𝓤 𝓛 mem run κs a g r e. refl }
 
-pub vs_ready : Coincide vs_ready'.ended vs_ready_says.claim
+pub vs_ready : Coincide contracts.vs_ready.ended vs_ready_says.claim
 vs_ready κs a x y e f p q = p ∙ sym q
 
 -- what meets the contract is that this session's counts are equal and not zero
-pub vs_ready_means : Means vs_ready'.ended vs_ready_says.claim
+pub vs_ready_means : Means contracts.vs_ready.ended vs_ready_says.claim
     (λ κs a r e. (r ≡ true) ↔ ((a.0.now.listed ≡ a.0.now.opened) × (a.0.now.opened ≡ 0 → ⊥)))
 vs_ready_means κs a r e = tells _ r (lit_means a.0.now)
 
-abbrev pub vs_sheet_read_in_place_says : Says vs_sheet_read_in_place'.ended (λ M. vs_sheet_read_in_place'.clauses {M = M})
-vs_sheet_read_in_place_says = record { claim = _; stated = λ M 𝓤 𝓛 mem run κs a g r e. refl }
+abbrev pub vs_sheet_read_in_place_says : Says contracts.vs_sheet_read_in_place.ended (λ M 𝓤. contracts.vs_sheet_read_in_place.clauses {M = M} {𝓤 = 𝓤})
+vs_sheet_read_in_place_says = record { claim = proofs.vs_sheet_read_in_place.Reads.Post; stated = λ M 𝓤 𝓛 mem run κs a g r e. refl }
 
-pub vs_sheet_read_in_place : CoincideAt vs_sheet_read_in_place'.ended Session (λ κs e. e.0.now) vs_sheet_read_in_place_says.claim
+pub vs_sheet_read_in_place : CoincideAt contracts.vs_sheet_read_in_place.ended Session (λ κs e. e.0.now) vs_sheet_read_in_place_says.claim
 vs_sheet_read_in_place κs a x y e f p q = (p.0 ∙ sym q.0, p.1 ∙ sym q.1)
 
-abbrev pub vs_sheet_write_says : Says vs_sheet_write'.ended (λ M. vs_sheet_write'.clauses {M = M})
-vs_sheet_write_says = record { claim = _; stated = λ M 𝓤 𝓛 mem run κs a g r e. refl }
+abbrev pub vs_sheet_write_says : Says contracts.vs_sheet_write.ended (λ M 𝓤. contracts.vs_sheet_write.clauses {M = M} {𝓤 = 𝓤})
+vs_sheet_write_says = record { claim = proofs.vs_sheet_write.Reads.Post; stated = λ M 𝓤 𝓛 mem run κs a g r e. refl }
 
-pub vs_sheet_write : CoincideAt vs_sheet_write'.ended (List ℕ) (λ κs e. e.1.0.now) vs_sheet_write_says.claim
+pub vs_sheet_write : CoincideAt contracts.vs_sheet_write.ended (List ℕ) (λ κs e. e.1.0.now) vs_sheet_write_says.claim
 vs_sheet_write κs a x y e f p q = (p.0 ∙ sym q.0, p.1 ∙ sym q.1)
 
 -- what meets the contract is the row of the table for writing that holds of this session and this buffer
-pub vs_sheet_write_rows : Means vs_sheet_write'.ended vs_sheet_write_says.claim
+pub vs_sheet_write_rows : Means contracts.vs_sheet_write.ended vs_sheet_write_says.claim
     (λ κs a r e. Row a.0.now a.1.0.now r e.1.0.now)
 vs_sheet_write_rows κs a r e = writing.table a.0.now a.1.0.now r e.1.0.now
 
 -- and so of asking and of a delivery, with this session, note and piece
-pub vs_ask_rows : Means vs_ask'.ended vs_ask'.Reads.Post (λ κs a r e. AskRow a.0 a.1.0 r)
+pub vs_ask_rows : Means contracts.vs_ask.ended proofs.vs_ask.Reads.Post (λ κs a r e. AskRow a.0 a.1.0 r)
 vs_ask_rows κs a r e = session.ask_table a.0 a.1.0 r
 
-pub vs_deliver_rows : Means vs_deliver'.ended vs_deliver'.Reads.Post (λ κs a r e. DeliveryRow a.0 a.1.0 a.1.1.0.now r)
+pub vs_deliver_rows : Means contracts.vs_deliver.ended proofs.vs_deliver.Reads.Post (λ κs a r e. DeliveryRow a.0 a.1.0 a.1.1.0.now r)
 vs_deliver_rows κs a r e = session.table a.0 a.1.0 a.1.1.0.now r
 
-pub vs_ask_in_place_rows : Means vs_ask_in_place'.ended vs_ask_in_place_says.claim (λ κs a r e. AskRow a.0.now a.1.0 r)
+pub vs_ask_in_place_rows : Means contracts.vs_ask_in_place.ended vs_ask_in_place_says.claim (λ κs a r e. AskRow a.0.now a.1.0 r)
 vs_ask_in_place_rows κs a r e = session.ask_table a.0.now a.1.0 r
 
-pub vs_deliver_in_place_rows : Means vs_deliver_in_place'.ended vs_deliver_in_place_says.claim
+pub vs_deliver_in_place_rows : Means contracts.vs_deliver_in_place.ended vs_deliver_in_place_says.claim
     (λ κs a r e. DeliveryRow a.0.now a.1.0 a.1.1.0.now (record { answer = r; session = e.0.now }))
 vs_deliver_in_place_rows κs a r e = delivered a.0.now a.1.0 a.1.1.0.now r e.0.now
 
 -- and so of reading a sheet: this text, and the session that is left, whatever it was before
-pub vs_sheet_read_rows : Means vs_sheet_read'.ended vs_sheet_read'.Reads.Post (λ κs a r e. SheetRow a.0.now r.verdict r.session)
+pub vs_sheet_read_rows : Means contracts.vs_sheet_read.ended proofs.vs_sheet_read.Reads.Post (λ κs a r e. SheetRow a.0.now r.verdict r.session)
 vs_sheet_read_rows κs a r e = reads_whole a.0.now r
 
-pub vs_sheet_read_in_place_rows : Means vs_sheet_read_in_place'.ended vs_sheet_read_in_place_says.claim
+pub vs_sheet_read_in_place_rows : Means contracts.vs_sheet_read_in_place.ended vs_sheet_read_in_place_says.claim
     (λ κs a r e. SheetRow a.1.0.now r e.0.now)
 vs_sheet_read_in_place_rows κs a r e = reads a.1.0.now r e.0.now
 
-pub vs_fold_means : Answers vs_fold'.ended vs_fold'.Reads.Post (λ κs a. folded a.0 a.1.0.now)
+pub vs_fold_means : Answers contracts.vs_fold.ended proofs.vs_fold.Reads.Post (λ κs a. folded a.0 a.1.0.now)
 vs_fold_means κs a r e = Iff.rfl
 
-pub vs_pad_write : CoincideAt vs_pad_write'.ended (List ℕ) (λ κs e. e.1.0.now) vs_pad_write'.Reads.Post
+pub vs_pad_write : CoincideAt contracts.vs_pad_write.ended (List ℕ) (λ κs e. e.1.0.now) proofs.vs_pad_write.Reads.Post
 vs_pad_write κs a x y e f p q = (p.0 ∙ sym q.0, p.1 ∙ sym q.1)
 
-pub vs_sheet_read : Coincide vs_sheet_read'.ended vs_sheet_read'.Reads.Post
+pub vs_sheet_read : Coincide contracts.vs_sheet_read.ended proofs.vs_sheet_read.Reads.Post
 vs_sheet_read κs a x y e f p q = p ∙ sym q
 
-pub vs_deliver : Coincide vs_deliver'.ended vs_deliver'.Reads.Post
+pub vs_deliver : Coincide contracts.vs_deliver.ended proofs.vs_deliver.Reads.Post
 vs_deliver κs a x y e f p q = p ∙ sym q
 
-pub vs_ask : Coincide vs_ask'.ended vs_ask'.Reads.Post
+pub vs_ask : Coincide contracts.vs_ask.ended proofs.vs_ask.Reads.Post
 vs_ask κs a x y e f p q = p ∙ sym q
 
 -- 4/13: codes, and the keyed sheet
-pub vs_code_start : Coincide vs_code_start'.ended vs_code_start'.Reads.Post
+pub vs_code_start : Coincide contracts.vs_code_start.ended proofs.vs_code_start.Reads.Post
 vs_code_start κs a x y e f p q = p ∙ sym q
 
-pub vs_code_start_rows : Means vs_code_start'.ended vs_code_start'.Reads.Post (λ κs a r e. StartRow a.0.now r)
+pub vs_code_start_rows : Means contracts.vs_code_start.ended proofs.vs_code_start.Reads.Post (λ κs a r e. StartRow a.0.now r)
 vs_code_start_rows κs a r e = codes.tables.starts a.0.now r
 
-pub vs_code_update : Coincide vs_code_update'.ended vs_code_update'.Reads.Post
+pub vs_code_update : Coincide contracts.vs_code_update.ended proofs.vs_code_update.Reads.Post
 vs_code_update κs a x y e f p q = p ∙ sym q
 
-pub vs_code_update_rows : Means vs_code_update'.ended vs_code_update'.Reads.Post (λ κs a r e. UpdateRow a.0 a.1.0.now r)
+pub vs_code_update_rows : Means contracts.vs_code_update.ended proofs.vs_code_update.Reads.Post (λ κs a r e. UpdateRow a.0 a.1.0.now r)
 vs_code_update_rows κs a r e = codes.tables.updates a.0 a.1.0.now r
 
-abbrev pub vs_code_update_in_place_says : Says vs_code_update_in_place'.ended (λ M. vs_code_update_in_place'.clauses {M = M})
-vs_code_update_in_place_says = record { claim = _; stated = λ M 𝓤 𝓛 mem run κs a g r e. refl }
+abbrev pub vs_code_update_in_place_says : Says contracts.vs_code_update_in_place.ended (λ M 𝓤. contracts.vs_code_update_in_place.clauses {M = M} {𝓤 = 𝓤})
+vs_code_update_in_place_says = record { claim = proofs.vs_code_update_in_place.Reads.Post; stated = λ M 𝓤 𝓛 mem run κs a g r e. refl }
 
-pub vs_code_update_in_place : CoincideAt vs_code_update_in_place'.ended Code (λ κs e. e.0.now) vs_code_update_in_place_says.claim
+pub vs_code_update_in_place : CoincideAt contracts.vs_code_update_in_place.ended Code (λ κs e. e.0.now) vs_code_update_in_place_says.claim
 vs_code_update_in_place κs a x y e f p q = (p.0 ∙ sym q.0, p.1 ∙ sym q.1)
 
-pub vs_code_update_in_place_rows : Means vs_code_update_in_place'.ended vs_code_update_in_place_says.claim
+pub vs_code_update_in_place_rows : Means contracts.vs_code_update_in_place.ended vs_code_update_in_place_says.claim
     (λ κs a r e. UpdateRow a.0.now a.1.0.now (record { number = r; state = e.0.now }))
 vs_code_update_in_place_rows κs a r e = taken a.0.now a.1.0.now r e.0.now
 
-pub vs_code_finish : Coincide vs_code_finish'.ended vs_code_finish'.Reads.Post
+pub vs_code_finish : Coincide contracts.vs_code_finish.ended proofs.vs_code_finish.Reads.Post
 vs_code_finish κs a x y e f p q = p ∙ sym q
 
-pub vs_code_finish_rows : Means vs_code_finish'.ended vs_code_finish'.Reads.Post (λ κs a r e. FinishRow a.0 r)
+pub vs_code_finish_rows : Means contracts.vs_code_finish.ended proofs.vs_code_finish.Reads.Post (λ κs a r e. FinishRow a.0 r)
 vs_code_finish_rows κs a r e = codes.tables.finishes a.0 r
 
-pub vs_code_of : Coincide vs_code_of'.ended vs_code_of'.Reads.Post
+pub vs_code_of : Coincide contracts.vs_code_of.ended proofs.vs_code_of.Reads.Post
 vs_code_of κs a x y e f p q = p ∙ sym q
 
-pub vs_code_of_rows : Means vs_code_of'.ended vs_code_of'.Reads.Post (λ κs a r e. CodeRow a.0.now a.1.0.now r)
+pub vs_code_of_rows : Means contracts.vs_code_of.ended proofs.vs_code_of.Reads.Post (λ κs a r e. CodeRow a.0.now a.1.0.now r)
 vs_code_of_rows κs a r e = codes.tables.codes a.0.now a.1.0.now r
 
-pub vs_compare_code : Coincide vs_compare_code'.ended vs_compare_code'.Reads.Post
+pub vs_compare_code : Coincide contracts.vs_compare_code.ended proofs.vs_compare_code.Reads.Post
 vs_compare_code κs a x y e f p q = p ∙ sym q
 
-pub vs_compare_code_rows : Means vs_compare_code'.ended vs_compare_code'.Reads.Post
+pub vs_compare_code_rows : Means contracts.vs_compare_code.ended proofs.vs_compare_code.Reads.Post
     (λ κs a r e. (d : Digest) × FinishRow a.0 d × HeldRow d a.1.0.now r)
 vs_compare_code_rows κs a r e = codes.tables.compares_state a.0 a.1.0.now r
 
-pub vs_compare_code_of : Coincide vs_compare_code_of'.ended vs_compare_code_of'.Reads.Post
+pub vs_compare_code_of : Coincide contracts.vs_compare_code_of.ended proofs.vs_compare_code_of.Reads.Post
 vs_compare_code_of κs a x y e f p q = p ∙ sym q
 
-pub vs_compare_code_of_rows : Means vs_compare_code_of'.ended vs_compare_code_of'.Reads.Post
+pub vs_compare_code_of_rows : Means contracts.vs_compare_code_of.ended proofs.vs_compare_code_of.Reads.Post
     (λ κs a r e. (d : Digest) × CodeRow a.0.now a.1.0.now d × HeldRow d a.1.1.0.now r)
 vs_compare_code_of_rows κs a r e = codes.tables.compares_message a.0.now a.1.0.now a.1.1.0.now r
 
-pub vs_keyed_read : Coincide vs_keyed_read'.ended vs_keyed_read'.Reads.Post
+pub vs_keyed_read : Coincide contracts.vs_keyed_read.ended proofs.vs_keyed_read.Reads.Post
 vs_keyed_read κs a x y e f p q = p ∙ sym q
 
-pub vs_keyed_read_rows : Means vs_keyed_read'.ended vs_keyed_read'.Reads.Post
+pub vs_keyed_read_rows : Means contracts.vs_keyed_read.ended proofs.vs_keyed_read.Reads.Post
     (λ κs a r e. Answered a.0.now a.1.0.now r.verdict r.session)
 vs_keyed_read_rows κs a r e = keyed_whole a.0.now a.1.0.now r
 
-abbrev pub vs_keyed_read_in_place_says : Says vs_keyed_read_in_place'.ended (λ M. vs_keyed_read_in_place'.clauses {M = M})
-vs_keyed_read_in_place_says = record { claim = _; stated = λ M 𝓤 𝓛 mem run κs a g r e. refl }
+abbrev pub vs_keyed_read_in_place_says : Says contracts.vs_keyed_read_in_place.ended (λ M 𝓤. contracts.vs_keyed_read_in_place.clauses {M = M} {𝓤 = 𝓤})
+vs_keyed_read_in_place_says = record { claim = proofs.vs_keyed_read_in_place.Reads.Post; stated = λ M 𝓤 𝓛 mem run κs a g r e. refl }
 
-pub vs_keyed_read_in_place : CoincideAt vs_keyed_read_in_place'.ended Session (λ κs e. e.0.now) vs_keyed_read_in_place_says.claim
+pub vs_keyed_read_in_place : CoincideAt contracts.vs_keyed_read_in_place.ended Session (λ κs e. e.0.now) vs_keyed_read_in_place_says.claim
 vs_keyed_read_in_place κs a x y e f p q = (p.0 ∙ sym q.0, p.1 ∙ sym q.1)
 
-pub vs_keyed_read_in_place_rows : Means vs_keyed_read_in_place'.ended vs_keyed_read_in_place_says.claim
+pub vs_keyed_read_in_place_rows : Means contracts.vs_keyed_read_in_place.ended vs_keyed_read_in_place_says.claim
     (λ κs a r e. Answered a.1.0.now a.1.1.0.now r e.0.now)
 vs_keyed_read_in_place_rows κs a r e = keyed.answers a.1.0.now a.1.1.0.now r e.0.now
 
-pub vs_update_in_place_means : Means vs_update_in_place'.ended vs_update_in_place_says.claim
+pub vs_update_in_place_means : Means contracts.vs_update_in_place.ended vs_update_in_place_says.claim
     (λ κs a r e. (r ≡ (updated a.0.now a.1.0.now).number) × (e.0.now ≡ (updated a.0.now a.1.0.now).state))
 vs_update_in_place_means κs a r e = Iff.rfl
 
-pub vs_fresh_means : Answers vs_fresh'.ended vs_fresh'.Reads.Post (λ κs a. fresh)
+pub vs_fresh_means : Answers contracts.vs_fresh.ended proofs.vs_fresh.Reads.Post (λ κs a. fresh)
 vs_fresh_means κs a r e = Iff.rfl
 
-pub vs_update_means : Answers vs_update'.ended vs_update'.Reads.Post (λ κs a. updated a.0 a.1.0.now)
+pub vs_update_means : Answers contracts.vs_update.ended proofs.vs_update.Reads.Post (λ κs a. updated a.0 a.1.0.now)
 vs_update_means κs a r e = Iff.rfl
 
-pub vs_finish_means : Answers vs_finish'.ended vs_finish'.Reads.Post (λ κs a. finished a.0)
+pub vs_finish_means : Answers contracts.vs_finish.ended proofs.vs_finish.Reads.Post (λ κs a. finished a.0)
 vs_finish_means κs a r e = Iff.rfl
 
-pub vs_digest_of_means : Answers vs_digest_of'.ended vs_digest_of'.Reads.Post (λ κs a. digest a.0.now)
+pub vs_digest_of_means : Answers contracts.vs_digest_of.ended proofs.vs_digest_of.Reads.Post (λ κs a. digest a.0.now)
 vs_digest_of_means κs a r e = Iff.rfl
 
-pub vs_compare_message_means : Answers vs_compare_message'.ended vs_compare_message'.Reads.Post
+pub vs_compare_message_means : Answers contracts.vs_compare_message.ended proofs.vs_compare_message.Reads.Post
     (λ κs a. compare_message a.0.now a.1.0.now)
 vs_compare_message_means κs a r e = Iff.rfl
 
-pub vs_compare_state_means : Answers vs_compare_state'.ended vs_compare_state'.Reads.Post (λ κs a. compare_state a.0 a.1.0.now)
+pub vs_compare_state_means : Answers contracts.vs_compare_state.ended proofs.vs_compare_state.Reads.Post (λ κs a. compare_state a.0 a.1.0.now)
 vs_compare_state_means κs a r e = Iff.rfl
 
-pub vs_pad_write_means : Means vs_pad_write'.ended vs_pad_write'.Reads.Post
+pub vs_pad_write_means : Means contracts.vs_pad_write.ended proofs.vs_pad_write.Reads.Post
     (λ κs a r e. (r ≡ written a.0.now a.1.0.now) × (e.1.0.now ≡ buffer_after a.0.now a.1.0.now))
 vs_pad_write_means κs a r e = Iff.rfl
 
-pub vs_block_number_means : Answers vs_block_number'.ended vs_block_number'.Reads.Post
+pub vs_block_number_means : Answers contracts.vs_block_number.ended proofs.vs_block_number.Reads.Post
     (λ κs a. view_number a.0.now a.1.0.now a.1.1.0)
 vs_block_number_means κs a r e = Iff.rfl
 
-pub vs_block_part_means : Answers vs_block_part'.ended vs_block_part'.Reads.Post
+pub vs_block_part_means : Answers contracts.vs_block_part.ended proofs.vs_block_part.Reads.Post
     (λ κs a. view_place a.0.now a.1.0.now a.1.1.0)
 vs_block_part_means κs a r e = Iff.rfl
 
-pub vs_remove_number_means : Answers vs_remove_number'.ended vs_remove_number'.Reads.Post (λ κs a. remove_number a.0.now)
+pub vs_remove_number_means : Answers contracts.vs_remove_number.ended proofs.vs_remove_number.Reads.Post (λ κs a. remove_number a.0.now)
 vs_remove_number_means κs a r e = Iff.rfl
 
-pub vs_remove_part_means : Answers vs_remove_part'.ended vs_remove_part'.Reads.Post (λ κs a. remove_length a.0.now)
+pub vs_remove_part_means : Answers contracts.vs_remove_part.ended proofs.vs_remove_part.Reads.Post (λ κs a. remove_length a.0.now)
 vs_remove_part_means κs a r e = Iff.rfl

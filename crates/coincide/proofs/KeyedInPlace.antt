@@ -4,13 +4,14 @@ use Rattle.session.specs.declared.Session.{Session}
 use Rattle.keyed_promises.specs.Answers.{Answered}
 use Rattle.keyed_promises.proofs.Proved.{proved as keyed}
 use Rattle.coincide.specs.Coincide.{CoincideAt, Means, Says}
-use Rattle.keyed_in_place.specs.contracts.read_into as read_into'
+use Rattle.keyed_in_place.specs.contracts
+use Rattle.keyed_in_place.proofs
 
-abbrev pub read_into_says : Says read_into'.ended (λ M. read_into'.clauses {M = M})
-read_into_says = record { claim = _; stated = λ M 𝓤 𝓛 mem run κs a g r e. refl }
+abbrev pub read_into_says : Says contracts.read_into.ended (λ M 𝓤. contracts.read_into.clauses {M = M} {𝓤 = 𝓤})
+read_into_says = record { claim = proofs.read_into.Reads.Post; stated = λ M 𝓤 𝓛 mem run κs a g r e. refl }
 
-pub read_into : CoincideAt read_into'.ended Session (λ κs e. e.0.now) read_into_says.claim
+pub read_into : CoincideAt contracts.read_into.ended Session (λ κs e. e.0.now) read_into_says.claim
 read_into κs a x y e f p q = (p.0 ∙ sym q.0, p.1 ∙ sym q.1)
 
-pub read_into_rows : Means read_into'.ended read_into_says.claim (λ κs a r e. Answered a.1.0.now a.1.1.0.now r e.0.now)
+pub read_into_rows : Means contracts.read_into.ended read_into_says.claim (λ κs a r e. Answered a.1.0.now a.1.1.0.now r e.0.now)
 read_into_rows κs a r e = keyed.answers a.1.0.now a.1.1.0.now r e.0.now

@@ -11,7 +11,7 @@ pub mod Word
 pub mod Decimal
 pub mod Texts
 pub mod Paths
-pub mod Hex
+pub mod HexDigits
 pub mod Rules
 pub mod Lines
 pub mod Standard

@@ -4,14 +4,15 @@ use Rattle.mac.specs.Promises.{UpdateRow}
 use Rattle.mac.specs.declared.Code.{Code}
 use Rattle.coincide.proofs.Coding.{taken}
 use Rattle.coincide.specs.Coincide.{CoincideAt, Means, Says}
-use Rattle.mac_in_place.specs.contracts.update as update'
+use Rattle.mac_in_place.specs.contracts
+use Rattle.mac_in_place.proofs
 
-abbrev pub update_says : Says update'.ended (λ M. update'.clauses {M = M})
-update_says = record { claim = _; stated = λ M 𝓤 𝓛 mem run κs a g r e. refl }
+abbrev pub update_says : Says contracts.update.ended (λ M 𝓤. contracts.update.clauses {M = M} {𝓤 = 𝓤})
+update_says = record { claim = proofs.update.Reads.Post; stated = λ M 𝓤 𝓛 mem run κs a g r e. refl }
 
-pub update : CoincideAt update'.ended Code (λ κs e. e.0.now) update_says.claim
+pub update : CoincideAt contracts.update.ended Code (λ κs e. e.0.now) update_says.claim
 update κs a x y e f p q = (p.0 ∙ sym q.0, p.1 ∙ sym q.1)
 
-pub update_rows : Means update'.ended update_says.claim
+pub update_rows : Means contracts.update.ended update_says.claim
     (λ κs a r e. UpdateRow a.0.now a.1.0.now (record { number = r; state = e.0.now }))
 update_rows κs a r e = taken a.0.now a.1.0.now r e.0.now

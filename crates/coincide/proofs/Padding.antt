@@ -7,27 +7,25 @@ use lib.ListN.{length}
 use Rattle.padding.specs.Padding.{block_count}
 use Rattle.padding.specs.Writing.{tail_answer, tail_after, written, buffer_after}
 use Rattle.coincide.specs.Coincide.{CoincideAt, Means, Answers}
-use Rattle.padding.proofs.block_count as block_count'
-use Rattle.padding.proofs.tail_answer as tail_answer'
-use Rattle.padding.proofs.pad as pad'
-use Rattle.padding.proofs.write as write'
+use Rattle.padding.specs.contracts
+use Rattle.padding.proofs
 
-pub pad : CoincideAt pad'.ended (List ℕ) (λ κs e. e.0.now) pad'.Reads.Post
+pub pad : CoincideAt contracts.pad.ended (List ℕ) (λ κs e. e.0.now) proofs.pad.Reads.Post
 pad κs a x y e f p q = (p.0 ∙ sym q.0, p.1 ∙ sym q.1)
 
-pub write : CoincideAt write'.ended (List ℕ) (λ κs e. e.1.0.now) write'.Reads.Post
+pub write : CoincideAt contracts.write.ended (List ℕ) (λ κs e. e.1.0.now) proofs.write.Reads.Post
 write κs a x y e f p q = (p.0 ∙ sym q.0, p.1 ∙ sym q.1)
 
-pub block_count_means : Answers block_count'.ended block_count'.Reads.Post (λ κs a. block_count a.0.0)
+pub block_count_means : Answers contracts.block_count.ended proofs.block_count.Reads.Post (λ κs a. block_count a.0.0)
 block_count_means κs a r e = Iff.rfl
 
-pub tail_answer_means : Answers tail_answer'.ended tail_answer'.Reads.Post (λ κs a. tail_answer a.0.0 a.1.0)
+pub tail_answer_means : Answers contracts.tail_answer.ended proofs.tail_answer.Reads.Post (λ κs a. tail_answer a.0.0 a.1.0)
 tail_answer_means κs a r e = Iff.rfl
 
-pub pad_means : Means pad'.ended pad'.Reads.Post
+pub pad_means : Means contracts.pad.ended proofs.pad.Reads.Post
     (λ κs a r e. (r ≡ tail_answer a.1.0.0 (length a.0.now)) × (e.0.now ≡ tail_after a.1.0.0 a.0.now))
 pad_means κs a r e = Iff.rfl
 
-pub write_means : Means write'.ended write'.Reads.Post
+pub write_means : Means contracts.write.ended proofs.write.Reads.Post
     (λ κs a r e. (r ≡ written a.0.now a.1.0.now) × (e.1.0.now ≡ buffer_after a.0.now a.1.0.now))
 write_means κs a r e = Iff.rfl

@@ -7,13 +7,10 @@ use borrow.Author.Tests.{eqb-true, eqb-false}
 use lib.Dec.{eqb}
 use Rattle.truth.proofs.Tests.{either}
 use Rattle.refusal.specs.Table.{accepted}
-use Rattle.lines.specs.declared.Entry.{Entry}
 use Rattle.session.specs.declared.Session.{Session}
 use Rattle.sheet.specs.Judging.{sheet_of}
 use Rattle.sheet.specs.declared.Verdict.{Verdict}
 use Rattle.sheet.specs.declared.Sheet.{Sheet}
-use Rattle.sheet_promises.specs.Grammar.{IsSheet}
-use Rattle.sheet_promises.specs.Faults.{Refused}
 use Rattle.sheet_promises.specs.Promises.{SheetRow, is_read, is_refused}
 use Rattle.sheet_promises.proofs.Proved.{proved as sheets}
 

@@ -7,43 +7,36 @@ use Rattle.sheet.specs.Filling.{with_listed, start, listing}
 use Rattle.sheet_promises.specs.Promises.{SheetRow}
 use Rattle.coincide.proofs.Reading.{reads_whole}
 use Rattle.coincide.specs.Coincide.{Coincide, Means, Answers}
-use Rattle.sheet.proofs.header_at as header_at'
-use Rattle.sheet.proofs.header_number as header_number'
-use Rattle.sheet.proofs.entry_number as entry_number'
-use Rattle.sheet.proofs.note_number as note_number'
-use Rattle.sheet.proofs.judged as judged'
-use Rattle.sheet.proofs.start_of as start_of'
-use Rattle.sheet.proofs.listing_at as listing_at'
-use Rattle.sheet.proofs.filled as filled'
-use Rattle.sheet.proofs.read as read'
+use Rattle.sheet.specs.contracts
+use Rattle.sheet.proofs
 
-pub filled_means : Answers filled'.ended filled'.Reads.Post
+pub filled_means : Answers contracts.filled.ended proofs.filled.Reads.Post
     (λ κs a. with_listed (with_notes empty_session (entries_at a.1.1.0 a.0.now a.1.0)) a.1.1.1.0)
 filled_means κs a r e = Iff.rfl
 
-pub read : Coincide read'.ended read'.Reads.Post
+pub read : Coincide contracts.read.ended proofs.read.Reads.Post
 read κs a x y e f p q = p ∙ sym q
 
-pub read_rows : Means read'.ended read'.Reads.Post (λ κs a r e. SheetRow a.0.now r.verdict r.session)
+pub read_rows : Means contracts.read.ended proofs.read.Reads.Post (λ κs a r e. SheetRow a.0.now r.verdict r.session)
 read_rows κs a r e = reads_whole a.0.now r
 
-pub header_at_means : Answers header_at'.ended header_at'.Reads.Post (λ κs a. header_at a.0.now a.1.0)
+pub header_at_means : Answers contracts.header_at.ended proofs.header_at.Reads.Post (λ κs a. header_at a.0.now a.1.0)
 header_at_means κs a r e = Iff.rfl
 
-pub header_number_means : Answers header_number'.ended header_number'.Reads.Post (λ κs a. header_number a.0)
+pub header_number_means : Answers contracts.header_number.ended proofs.header_number.Reads.Post (λ κs a. header_number a.0)
 header_number_means κs a r e = Iff.rfl
 
-pub entry_number_means : Answers entry_number'.ended entry_number'.Reads.Post (λ κs a. entry_number a.0 a.1.0)
+pub entry_number_means : Answers contracts.entry_number.ended proofs.entry_number.Reads.Post (λ κs a. entry_number a.0 a.1.0)
 entry_number_means κs a r e = Iff.rfl
 
-pub note_number_means : Answers note_number'.ended note_number'.Reads.Post (λ κs a. note_number a.0 a.1.0)
+pub note_number_means : Answers contracts.note_number.ended proofs.note_number.Reads.Post (λ κs a. note_number a.0 a.1.0)
 note_number_means κs a r e = Iff.rfl
 
-pub judged_means : Answers judged'.ended judged'.Reads.Post (λ κs a. verdict_of a.0.now a.1.0)
+pub judged_means : Answers contracts.judged.ended proofs.judged.Reads.Post (λ κs a. verdict_of a.0.now a.1.0)
 judged_means κs a r e = Iff.rfl
 
-pub start_of_means : Answers start_of'.ended start_of'.Reads.Post (λ κs a. start a.0 a.1.0)
+pub start_of_means : Answers contracts.start_of.ended proofs.start_of.Reads.Post (λ κs a. start a.0 a.1.0)
 start_of_means κs a r e = Iff.rfl
 
-pub listing_at_means : Answers listing_at'.ended listing_at'.Reads.Post (λ κs a. listing a.0.now a.1.0)
+pub listing_at_means : Answers contracts.listing_at.ended proofs.listing_at.Reads.Post (λ κs a. listing a.0.now a.1.0)
 listing_at_means κs a r e = Iff.rfl

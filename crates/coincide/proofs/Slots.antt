@@ -10,28 +10,25 @@ use Rattle.slots.proofs.Proved.{proved as slots}
 use Rattle.slots.specs.Slots.{empty_slot, waiting_slot}
 use Rattle.slots.specs.Delivery.{deliver_at, ask_at}
 use Rattle.coincide.specs.Coincide.{Coincide, Means, Answers}
-use Rattle.slots.proofs.slot_in_order as slot_in_order'
-use Rattle.slots.proofs.empty_slot as empty_slot'
-use Rattle.slots.proofs.waiting_slot as waiting_slot'
-use Rattle.slots.proofs.deliver_at as deliver_at'
-use Rattle.slots.proofs.ask_at as ask_at'
+use Rattle.slots.specs.contracts
+use Rattle.slots.proofs
 
-pub slot_in_order_lem : Coincide slot_in_order'.ended slot_in_order'.Reads.Post
-slot_in_order_lem κs a x y e f p q = p ∙ sym q
+pub slot_in_order : Coincide contracts.slot_in_order.ended proofs.slot_in_order.Reads.Post
+slot_in_order κs a x y e f p q = p ∙ sym q
 
 -- what meets the contract is that this slot's record obeys rules 3 and 4 and its state fits its status
-pub slot_in_order_means : Means slot_in_order'.ended slot_in_order'.Reads.Post
+pub slot_in_order_means : Means contracts.slot_in_order.ended proofs.slot_in_order.Reads.Post
     (λ κs a r e. (r ≡ true) ↔ (Obeyed a.0.sample × StateInOrder a.0))
 slot_in_order_means κs a r e = tells _ r (slots.slots_in_order a.0)
 
-pub empty_slot_means : Answers empty_slot'.ended empty_slot'.Reads.Post (λ κs a. empty_slot)
+pub empty_slot_means : Answers contracts.empty_slot.ended proofs.empty_slot.Reads.Post (λ κs a. empty_slot)
 empty_slot_means κs a r e = Iff.rfl
 
-pub waiting_slot_means : Answers waiting_slot'.ended waiting_slot'.Reads.Post (λ κs a. waiting_slot a.0)
+pub waiting_slot_means : Answers contracts.waiting_slot.ended proofs.waiting_slot.Reads.Post (λ κs a. waiting_slot a.0)
 waiting_slot_means κs a r e = Iff.rfl
 
-pub deliver_at_means : Answers deliver_at'.ended deliver_at'.Reads.Post (λ κs a. deliver_at a.0 a.1.0 a.1.1.0.now)
+pub deliver_at_means : Answers contracts.deliver_at.ended proofs.deliver_at.Reads.Post (λ κs a. deliver_at a.0 a.1.0 a.1.1.0.now)
 deliver_at_means κs a r e = Iff.rfl
 
-pub ask_at_means : Answers ask_at'.ended ask_at'.Reads.Post (λ κs a. ask_at a.0 a.1.0)
+pub ask_at_means : Answers contracts.ask_at.ended proofs.ask_at.Reads.Post (λ κs a. ask_at a.0 a.1.0)
 ask_at_means κs a r e = Iff.rfl

@@ -2,19 +2,17 @@
 use mathlib.Core.Logic.Iff
 use Rattle.units.specs.Units.{bits_of, bytes_of_bits, frames_of, bytes_of_frames}
 use Rattle.coincide.specs.Coincide.{Answers}
-use Rattle.units.proofs.Bits.bytes as Bits-bytes'
-use Rattle.units.proofs.Bytes.bits as Bytes-bits'
-use Rattle.units.proofs.Bytes.frames as Bytes-frames'
-use Rattle.units.proofs.Frames.bytes as Frames-bytes'
+use Rattle.units.specs.contracts
+use Rattle.units.proofs
 
-pub Bits-bytes-means : Answers Bits-bytes'.ended Bits-bytes'.Reads.Post (λ κs a. bytes_of_bits a.0)
-Bits-bytes-means κs a r e = Iff.rfl
+pub Bits-bytes_means : Answers contracts.Bits.bytes.ended proofs.Bits.bytes.Reads.Post (λ κs a. bytes_of_bits a.0)
+Bits-bytes_means κs a r e = Iff.rfl
 
-pub Bytes-bits-means : Answers Bytes-bits'.ended Bytes-bits'.Reads.Post (λ κs a. bits_of a.0)
-Bytes-bits-means κs a r e = Iff.rfl
+pub Bytes-bits_means : Answers contracts.Bytes.bits.ended proofs.Bytes.bits.Reads.Post (λ κs a. bits_of a.0)
+Bytes-bits_means κs a r e = Iff.rfl
 
-pub Bytes-frames-means : Answers Bytes-frames'.ended Bytes-frames'.Reads.Post (λ κs a. frames_of a.0)
-Bytes-frames-means κs a r e = Iff.rfl
+pub Bytes-frames_means : Answers contracts.Bytes.frames.ended proofs.Bytes.frames.Reads.Post (λ κs a. frames_of a.0)
+Bytes-frames_means κs a r e = Iff.rfl
 
-pub Frames-bytes-means : Answers Frames-bytes'.ended Frames-bytes'.Reads.Post (λ κs a. bytes_of_frames a.0)
-Frames-bytes-means κs a r e = Iff.rfl
+pub Frames-bytes_means : Answers contracts.Frames.bytes.ended proofs.Frames.bytes.Reads.Post (λ κs a. bytes_of_frames a.0)
+Frames-bytes_means κs a r e = Iff.rfl

@@ -5,14 +5,15 @@ use mathlib.Core.List.{List}
 use Rattle.writing.specs.Promises.{Row}
 use Rattle.writing.proofs.Proved.{proved as writing}
 use Rattle.coincide.specs.Coincide.{CoincideAt, Means, Says}
-use Rattle.writer.specs.contracts.write as write'
+use Rattle.writer.specs.contracts
+use Rattle.writer.proofs
 
-abbrev pub write_says : Says write'.ended (λ M. write'.clauses {M = M})
-write_says = record { claim = _; stated = λ M 𝓤 𝓛 mem run κs a g r e. refl }
+abbrev pub write_says : Says contracts.write.ended (λ M 𝓤. contracts.write.clauses {M = M} {𝓤 = 𝓤})
+write_says = record { claim = proofs.write.Reads.Post; stated = λ M 𝓤 𝓛 mem run κs a g r e. refl }
 
-pub write : CoincideAt write'.ended (List ℕ) (λ κs e. e.1.0.now) write_says.claim
+pub write : CoincideAt contracts.write.ended (List ℕ) (λ κs e. e.1.0.now) write_says.claim
 write κs a x y e f p q = (p.0 ∙ sym q.0, p.1 ∙ sym q.1)
 
 -- what meets the contract is the row of the table for writing that holds of this session and this buffer
-pub write_rows : Means write'.ended write_says.claim (λ κs a r e. Row a.0.now a.1.0.now r e.1.0.now)
+pub write_rows : Means contracts.write.ended write_says.claim (λ κs a r e. Row a.0.now a.1.0.now r e.1.0.now)
 write_rows κs a r e = writing.table a.0.now a.1.0.now r e.1.0.now

@@ -56,7 +56,7 @@ PartsCoincide T part claim =
     → claim κs a x e → claim κs a y f
     → ((part κs x).now ≡ (part κs y).now) × ((part κs x).ref_ptr ≡ (part κs y).ref_ptr)
 
--- the clauses of a contract that is proved by a walk: in every model of the logic they are the fact of one claim
+-- the clauses of a contract: in every model of the logic they are the fact of one claim
 pub record Says (T : Ended)
     (clauses : (M : Type 1) (𝓤 : Ura M) (𝓛 : Logic 𝓤) → (Memory → SProp 𝓤) → (Routine → Fun 𝓤) → Clauses 𝓤 T) : Type 3 where
   pub claim : Claim T

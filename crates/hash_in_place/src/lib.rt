@@ -1,5 +1,6 @@
 // The hash state in place: "The card driver keeps one hash state and folds each piece into it in place."
 #![tactic(auto)]
+
 ghost use Rattle.std.specs.Prelude.{◌≡◌};
 ghost use Rattle.hash.specs.Update.{update as updated};
 

@@ -6,9 +6,9 @@ use mathlib.Core.Logic.{◌⊎◌, inl, inr, ⊎_elim}
 use mathlib.Core.Bool.{Bool, true, false, ◌&&◌, false≢true}
 use native.Mathlib.Decide.{dec_lt}
 use native.Mathlib.Omega.{arith}
-use borrow.Author.Tests.{leb-true, leb-false, le-leb, lt-leb, lt-ltb, le-ltb}
+use borrow.Author.Tests.{leb-true, le-leb, lt-leb, lt-ltb, le-ltb}
 use lib.Dec.{eqb, eqb→eq, leb}
-use lib.ListN.{get_or, length}
+use lib.ListN.{get_or}
 use Rattle.hex_digits.specs.Digits.{within, digit_of, digits, letter_of, IsDigit}
 use Rattle.hex_digits.proofs.Every.{at}
 

@@ -1,5 +1,6 @@
 // Hex digits: a constant table of 256 entries, one a byte code.
 #![tactic(auto)]
+
 ghost use Rattle.std.specs.Prelude.{◌≡◌, get_or};
 ghost use Rattle.hex_digits.specs.Digits.{digits, letter_of};
 

@@ -1,5 +1,6 @@
 // The code state in place: as the card driver keeps its hash state.
 #![tactic(auto)]
+
 ghost use Rattle.std.specs.Prelude.{◌≡◌};
 ghost use Rattle.mac.specs.Codes.{update as updated};
 

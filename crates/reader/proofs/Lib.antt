@@ -1,3 +1,1 @@
-pub mod Structs
-pub mod Holding
 pub mod Proved

@@ -1,6 +1,7 @@
 // The reader of rank sheets: it holds the text and its place in it. Each function takes it apart and calls a covered one on the text and
 // the place.
 #![tactic(auto)]
+
 ghost use Rattle.std.specs.Prelude.{◌≡◌};
 ghost use Rattle.reader.specs.Reader.{begin_of, header_read, line_read};
 ghost use Rattle.sheet.specs.Judging.{judged};

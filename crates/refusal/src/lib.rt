@@ -1,5 +1,6 @@
 // The refusal numbers of the product's table, and what a call that writes into a buffer answers. 0 is an accepted call.
 #![tactic(auto)]
+
 ghost use Rattle.std.specs.Prelude.{◌≡◌, ◌∷◌, ◌++◌};
 ghost use Rattle.refusal.specs.Table.{accepted};
 ghost use Rattle.refusal.specs.Promises.{rows, later_rows};

@@ -1,5 +1,6 @@
 // What the program prints, as texts: a line for each listed note of a session, or one line for a refused sheet.
 #![tactic(auto)]
+
 ghost use Rattle.std.specs.Prelude.{◌≡◌};
 ghost use Rattle.texts.specs.Texts.{with_part, text_of};
 ghost use Rattle.report.specs.Report.{word, note_line, refused_line, line_of, report};

@@ -1,5 +1,6 @@
 // Rules 2 to 4 of a rank sheet. A line is judged by all of them, and a slot in order obeys rules 3 and 4.
 #![tactic(auto)]
+
 ghost use Rattle.std.specs.Prelude.{◌≡◌};
 ghost use Rattle.rules.specs.Rules.{count_rule, is_note, note_rule, length_rule, loop_rule, good_length, good_loop, obeys, zero_record};
 

@@ -1,4 +1,2 @@
-pub mod Structs
-pub mod Slots
 pub mod Filling
 pub mod Sheets

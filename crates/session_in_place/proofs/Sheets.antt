@@ -1,6 +1,6 @@
 -- What a sheet's verdict and its lines make of a session is the sheet's answer. Assumes nothing.
 use Prim.Native.Nat.{ℕ}
-use mathlib.Core.Path.{◌≡◌, ap, ◌∙◌}
+use mathlib.Core.Path.{◌≡◌, ap}
 use mathlib.Core.List.{List}
 use Rattle.session.specs.Sessions.{empty_session}
 use Rattle.session.specs.declared.Session.{Session}

@@ -1,5 +1,6 @@
 // The loading session in place, in a session that is lent: what a board calls. Only the note's own slot is copied, and written back.
 #![tactic(auto)]
+
 ghost use Rattle.std.specs.Prelude.{◌≡◌};
 ghost use Rattle.session.specs.Sessions.{empty_session};
 ghost use Rattle.session.specs.Light.{ready as lit};

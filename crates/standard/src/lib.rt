@@ -1,5 +1,6 @@
 // The SM3 standard's page: the functions that it names. Their names, and what each of them means, are those of specs/Standard.antt.
 #![tactic(auto)]
+
 ghost use Rattle.std.specs.Prelude.{◌≡◌, ◌+◌, ◌≤◌, ◌%◌};
 ghost use Rattle.std.proofs.Math.Seq.{paste};
 ghost use Rattle.word.specs.BigEndian.{big_endian};

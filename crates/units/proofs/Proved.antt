@@ -1,5 +1,4 @@
 -- The crate's promises, proved. Assumes nothing.
-use Prim.Native.Nat.{◌-◌}
 use mathlib.Core.Path.{ap, refl}
 use native.Mathlib.Nat.{mul_comm}
 use Rattle.units.specs.Promises.{Promises}

@@ -1,5 +1,6 @@
 // Three units of length that are never mixed: bits, bytes and sample frames. One frame is two bytes.
 #![tactic(auto)]
+
 ghost use Rattle.std.specs.Prelude.{◌≡◌};
 ghost use Rattle.units.specs.Units.{bits_of, bytes_of_bits, frames_of, bytes_of_frames};
 

@@ -1,6 +1,6 @@
 -- Fields, digits and lines laid in a buffer that has room for them. Assumes nothing.
 use Prim.Native.Nat.{ℕ, suc, ◌+◌, ◌-◌, ◌*◌, ◌/◌, ◌%◌, ◌≤◌, ◌<◌}
-use mathlib.Core.Path.{◌≡◌, refl, sym, ap, ◌∙◌}
+use mathlib.Core.Path.{◌≡◌, sym, ap, ◌∙◌}
 use mathlib.Core.List.{List, [], ◌∷◌, ◌++◌, append_assoc}
 use mathlib.Core.Bool.{Bool, true, false}
 use native.Mathlib.Numerals.{add-one}
@@ -18,7 +18,7 @@ use Rattle.hex_digits.specs.Digits.{letter_of}
 use Rattle.lines.specs.declared.Entry.{Entry}
 use Rattle.writing.specs.Texts.{field_text, digest_text, line_text, header_text}
 use Rattle.writing.proofs.Laying.{length_copied, one_laid, part_laid}
-use Rattle.writing.proofs.Sizes.{field_size, digest_size, header_size, line_size}
+use Rattle.writing.proofs.Sizes.{field_size, digest_size}
 
 -- room is left behind a place
 pub room_left : (room at size : ℕ) → size ≤ room → leb at (room - size) ≡ leb (at + size) room

@@ -1,5 +1,6 @@
 // A rank sheet as text: its header and its lines, how long they are, and laid in a lent buffer.
 #![tactic(auto)]
+
 ghost use Rattle.std.specs.Prelude.{◌≡◌, [], ◌∷◌, ◌++◌, ◌+◌, ◌*◌, ◌≤◌, leb, length};
 ghost use Rattle.buffers.specs.Copy.{copied};
 ghost use Rattle.decimal.specs.Writing.{decimal};

@@ -1,11 +1,6 @@
 -- `all_zero` gathers the bytes' bits. The invariant: all are zero exactly when no bit was gathered and what is left is zero. Assumes nothing.
-use Prim.Native.Nat.{◌≤◌, ◌-◌}
-use mathlib.Core.Path.{◌≡◌, refl, sym, ◌∙◌}
-use mathlib.Core.Bool.{◌&&◌}
+use mathlib.Core.Path.{refl, sym, ◌∙◌}
 use borrow.Author.Rules.{rules}
-use lib.Dec.{eqb}
-use lib.ListN.{length, drop, replicate}
-use Rattle.buffers.specs.Same.{same}
 use Rattle.buffers.proofs.Zeros.{gather_more, gathered_all}
 use Rattle.buffers.proofs.all_zero.Goals as goal
 

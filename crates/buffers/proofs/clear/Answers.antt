@@ -1,9 +1,7 @@
 -- `clear` puts zeros. The invariant: the bytes as they stand, with the zeros that are left, are what they are to be. Assumes nothing.
-use Prim.Native.Nat.{◌≤◌, ◌-◌}
-use mathlib.Core.Path.{◌≡◌, refl, sym, ◌∙◌}
+use mathlib.Core.Path.{refl, sym, ◌∙◌}
 use borrow.Author.Rules.{rules}
-use lib.ListN.{length, replicate, length-set}
-use Rattle.buffers.specs.Copy.{copied}
+use lib.ListN.{length-set}
 use Rattle.buffers.proofs.Zeros.{cleared_one, all_cleared, cleared_not}
 use Rattle.buffers.proofs.clear.Goals as goal
 

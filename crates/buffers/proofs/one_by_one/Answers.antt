@@ -1,9 +1,8 @@
 -- `one_by_one` pastes. The loop's invariant: so many bytes are pasted already. Assumes nothing.
-use Prim.Native.Nat.{◌≤◌, ◌-◌}
-use mathlib.Core.Path.{◌≡◌, refl}
+use mathlib.Core.Path.{refl}
 use borrow.Author.Rules.{rules}
-use lib.ListN.{length, length-set}
-use lib.Seq.{paste, paste-zero}
+use lib.ListN.{length-set}
+use lib.Seq.{paste-zero}
 use Rattle.buffers.proofs.Copied.{paste_more, paste_done}
 use Rattle.buffers.proofs.one_by_one.Goals as goal
 

@@ -1,12 +1,7 @@
 -- `same` says whether its two slices are the same. The invariant: they are so exactly when no difference was gathered and what is left is the same.
 -- Assumes nothing.
-use Prim.Native.Nat.{◌≤◌, ◌-◌}
-use mathlib.Core.Path.{◌≡◌, refl, sym, ◌∙◌}
-use mathlib.Core.Bool.{◌&&◌}
+use mathlib.Core.Path.{refl, sym, ◌∙◌}
 use borrow.Author.Rules.{rules}
-use lib.Dec.{eqb}
-use lib.ListN.{length, drop}
-use Rattle.buffers.specs.Same.{same}
 use Rattle.buffers.proofs.Comparing.{other_length, one_more, all_done}
 use Rattle.buffers.proofs.same.Goals as goal
 

@@ -1,6 +1,5 @@
 -- `letter_of` is the definition's digit. Assumes nothing.
 use mathlib.Core.Path.{sym}
-use borrow.Author.Rules.{rules}
 use Rattle.hex_digits.proofs.Digits.{letter_figure, letter_letter, letter_none}
 use Rattle.hex_digits.proofs.letter_of.Goals as goal
 

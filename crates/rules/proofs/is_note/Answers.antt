@@ -1,5 +1,4 @@
 -- `is_note` says whether a number is a note. Assumes nothing.
-use borrow.Author.Rules.{rules}
 use borrow.Author.Tests.{le-leb, lt-leb}
 use Rattle.rules.specs.Rules.{is_note}
 use Rattle.rules.proofs.is_note.Goals as goal

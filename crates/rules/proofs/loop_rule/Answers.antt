@@ -1,5 +1,4 @@
 -- `loop_rule` is rule 4. Assumes nothing.
-use borrow.Author.Rules.{rules}
 use borrow.Author.Tests.{le-leb, lt-leb}
 use Rattle.rules.specs.Rules.{loop_rule}
 use Rattle.rules.proofs.Rules.{whole_frames}

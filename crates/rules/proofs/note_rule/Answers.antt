@@ -1,5 +1,4 @@
 -- `note_rule` is rule 2 of a note. Assumes nothing.
-use borrow.Author.Rules.{rules}
 use mathlib.Core.Path.{sym, ◌∙◌}
 use Rattle.rules.specs.Rules.{note_rule}
 use Rattle.rules.proofs.note_rule.Goals as goal

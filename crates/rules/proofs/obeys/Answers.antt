@@ -1,5 +1,4 @@
 -- `obeys` is rules 3 and 4. Assumes nothing.
-use borrow.Author.Rules.{rules}
 use mathlib.Core.Path.{sym, ◌∙◌}
 use Rattle.rules.specs.Rules.{obeys}
 use Rattle.rules.proofs.obeys.Goals as goal

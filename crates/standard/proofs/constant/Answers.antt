@@ -1,6 +1,5 @@
 use Rattle.standard.specs.Standard.{T}
 use borrow.Author.Tests.{lt-ltb, le-ltb}
-use borrow.Author.Rules.{rules}
 use Rattle.standard.proofs.constant.Goals as goal
 
 pub returns-then-j-lt16 : goal.returns-then-j-lt16

@@ -1,4 +1,4 @@
-use Rattle.std.proofs.Common.{refl, rules}
+use Rattle.std.proofs.Common.{refl}
 use Rattle.word.specs.BigEndian.{big_endian}
 use Rattle.word.proofs.eight_bytes_of.Goals as goal
 

@@ -1,4 +1,4 @@
-use Rattle.std.proofs.Common.{arith, rules}
+use Rattle.std.proofs.Common.{arith}
 use Rattle.word.specs.BigEndian.{number_from, number_of}
 use Rattle.word.proofs.word_of.Goals as goal
 

@@ -1,5 +1,4 @@
 -- `Bytes::bits` answers as the definition says, on each side of its test. Assumes nothing.
-use borrow.Author.Rules.{rules}
 use mathlib.Core.Path.{sym}
 use Rattle.units.proofs.Exact.{bits_are, no_bits_lem}
 use Rattle.units.proofs.Bytes.bits.Goals as goal

@@ -1,5 +1,4 @@
 -- `Frames::bytes` answers as the definition says, on each side of its test. Assumes nothing.
-use borrow.Author.Rules.{rules}
 use mathlib.Core.Path.{sym}
 use Rattle.units.proofs.Exact.{frames_in_bytes_are, no_frames_in_bytes}
 use Rattle.units.proofs.Frames.bytes.Goals as goal
