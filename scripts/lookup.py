@@ -117,8 +117,9 @@ def members(item, rows):
 # ---- .rt -----------------------------------------------------------------------------------------------------------------------------
 
 # kind: fn, struct, enum, const or type. owner: the type whose `impl` it stands in, or "". head: a function's signature, its attributes before it.
-# params: pairs of a name and a type. clauses: pairs of "requires" or "ensures" and what its braces hold. body: with its braces; of a const its value.
-Coded = namedtuple("Coded", "kind name owner pub line attributes params result clauses body")
+# generics: with their brackets, or "". params: pairs of a name and a type. clauses: pairs of "requires" or "ensures" and what its braces hold, without its
+# name. body: with its braces; of a const its value.
+Coded = namedtuple("Coded", "kind name owner pub line attributes generics params result clauses body")
 
 ITEM = re.compile(
     r'(?P<attributes>(?:#\[[^\]]*\]\s*)*)(?P<pub>\bpub\s+|\bpub\s*\([^)]*\)\s*)?(?:\bextern\s+"C"\s+)?\b(?P<kind>fn|struct|enum|const|type|impl|mod|use|ghost|extern)\b'
@@ -214,7 +215,7 @@ def coded(text):
         if begun == len(code) or code[begun] not in "{;":
             raise Unread(f"{named.group(1)}: what stands between its signature and its body is not read")
         end = past(code, begun) if code[begun] == "{" else begun + 1
-        return named.group(1), params, result, clauses, plain[begun:end], end
+        return named.group(1), named.group(2) or "", params, result, clauses, plain[begun:end], end
 
     def scan(at, stop, owner):
         while True:
@@ -224,8 +225,8 @@ def coded(text):
             kind, line = head["kind"], code.count("\n", 0, head.start("kind")) + 1
             here = dict(owner=owner, pub=bool(head["pub"]) and "(" not in head["pub"], line=line, attributes=head["attributes"])
             if kind == "fn":
-                name, params, result, clauses, body, at = function(head, owner)
-                found.append(Coded(kind, name, params=params, result=result, clauses=clauses, body=body, **here))
+                name, generics, params, result, clauses, body, at = function(head, owner)
+                found.append(Coded(kind, name, generics=generics, params=params, result=result, clauses=clauses, body=body, **here))
                 continue
             named = re.compile(r"\s*(?:<[^>]*>\s*)?(\w*)\s*(?:<[^>]*>)?").match(code, head.end())
             end = reach(code, named.end(), re.compile(r"[;{]" if kind not in ("const", "type", "use", "ghost") else ";"))
@@ -235,7 +236,7 @@ def coded(text):
                 continue
             at = past(code, end) if code[end] == "{" else end + 1
             if kind in ("struct", "enum", "const", "type"):
-                found.append(Coded(kind, named.group(1), params=[], result="", clauses=[], body=plain[named.end() : at].strip(), **here))
+                found.append(Coded(kind, named.group(1), generics="", params=[], result="", clauses=[], body=plain[named.end() : at].strip(), **here))
 
     scan(0, len(code), "")
     return found

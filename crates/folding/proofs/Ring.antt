@@ -15,7 +15,7 @@ use Rattle.standard.specs.Standard.{P1, split, expansion, W', round, round_on, r
 use Rattle.standard.specs.Promises.{W}
 use Rattle.standard.proofs.Expansion.{getD_split, length_expansion, expansion_block, expansion_next}
 use Rattle.standard.proofs.Rounds.{rounds_next}
-use Rattle.folding.specs.Ring.{Ring, Before, IsWord, Turned, Goes}
+use Rattle.folding.specs.Ring.{Ring, IsWord, Turned, Goes}
 
 -- the block's own words are the ring before round 0
 pub ring_first : (B w : List ℕ) → w ≡ split 16 B → Ring B 0 w

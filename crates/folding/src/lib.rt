@@ -1,5 +1,6 @@
 // SM3's folding of blocks, each read where it lies, by a ring of sixteen words (specs/Ring.antt).
 #![tactic(auto)]
+
 ghost use Rattle.std.specs.Prelude.{◌≡◌, ◌+◌, ◌*◌, ◌<◌, ◌≤◌, length, take, drop};
 ghost use Rattle.word.specs.BigEndian.{number_of};
 ghost use Rattle.standard.specs.Standard.{split, expansion, CF, folded};

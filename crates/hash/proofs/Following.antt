@@ -9,7 +9,7 @@ use borrow.Author.Tests.{eq-eqb, ne_eqb}
 use lib.ListN.{length, length-append}
 use Rattle.refusal.specs.Table.{accepted, too_long}
 use Rattle.units.specs.Units.{longest}
-use Rattle.hash.specs.State.{fresh, in_order}
+use Rattle.hash.specs.State.{fresh}
 use Rattle.hash.specs.Update.{after_piece, update}
 use Rattle.hash.specs.Digests.{no_digest, finish, digest}
 use Rattle.hash.specs.Following.{followed, finished}

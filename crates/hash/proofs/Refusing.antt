@@ -9,7 +9,6 @@ use lib.Dec.{leb, eqb}
 use lib.ListN.{length}
 use borrow.Author.Tests.{leb-true, leb-false, eqb-true, eqb-false, ne_eqb}
 use Rattle.refusal.specs.Table.{accepted, state_not_in_order, too_long, wrong_size}
-use Rattle.buffers.specs.Same.{same}
 use Rattle.truth.proofs.Tests.{not_both}
 use Rattle.buffers.proofs.Comparing.{same_equal, equal_same}
 use Rattle.standard.proofs.Folding.{length_hashValue}

@@ -1,5 +1,6 @@
 // The hash state: what is known of a message of which a part has come.
 #![tactic(auto)]
+
 ghost use Rattle.std.specs.Prelude.{◌≡◌, true, ◌++◌, ◌+◌, ◌≤◌, length};
 ghost use Rattle.hash.specs.State.{fresh, in_list, is_fresh, in_order, as_tail};
 ghost use Rattle.refusal.specs.Table.{accepted};

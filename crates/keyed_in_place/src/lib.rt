@@ -1,5 +1,6 @@
 // The keyed sheet in place, read into a session that is lent: what a board calls.
 #![tactic(auto)]
+
 ghost use Rattle.std.specs.Prelude.{◌≡◌};
 ghost use Rattle.keyed.specs.Keyed.{keyed_of};
 

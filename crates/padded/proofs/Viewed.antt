@@ -2,12 +2,12 @@
 use Prim.Native.Nat.{ℕ, ◌+◌, ◌*◌, ◌-◌, ◌/◌, ◌%◌, ◌<◌, ◌≤◌}
 use mathlib.Core.Path.{◌≡◌, refl, sym, ap, ◌∙◌}
 use mathlib.Core.Bool.{Bool, true, false, ◌&&◌}
-use mathlib.Core.List.{List, []}
+use mathlib.Core.List.{List}
 use native.Mathlib.Decide.{dec_lt}
 use native.Mathlib.Omega.{arith}
-use borrow.Author.Tests.{lt-ltb, le-ltb, eq-eqb, ne_eqb, eqb-false}
+use borrow.Author.Tests.{lt-ltb, le-ltb, eqb-false}
 use lib.Dec.{eqb}
-use lib.ListN.{length, take, drop}
+use lib.ListN.{length, take}
 use lib.Seq.{length-take-le}
 use Rattle.refusal.specs.Table.{accepted, too_long, wrong_size, other_tail, no_such_block}
 use Rattle.buffers.specs.Same.{same}
@@ -23,8 +23,7 @@ use Rattle.padding.specs.Writing.{tail_of, tail_size, tail_answer}
 use Rattle.padding.proofs.Tails.{length_bits, fills, fills_blocks, cases, refused_long, refused_size, accepts, accepted_when}
 use Rattle.padding.proofs.Wholes.{last_part, last_part_lem}
 use Rattle.padded.specs.Removing.{stated_bits, right_fill}
-use Rattle.padded.specs.Viewing.{view_number, view_part}
-use Rattle.padded.proofs.Placed.{in_neither_lem, in_message_lem, in_buffer_lem}
+use Rattle.padded.specs.Viewing.{view_number}
 use Rattle.padded.proofs.Parts.{by_parts}
 
 -- a tail against what the writer puts there: the message's last bytes, the fill and the stated length

@@ -1,5 +1,5 @@
 -- "Removing": document 01, "Padded blocks".
-use Rattle.std.specs.Prelude.{ℕ, ◌+◌, ◌*◌, ◌-◌, ◌/◌, ◌%◌, List, [], Bool, cond, ◌&&◌, ltb, eqb, length, get_or, take, drop, replicate}
+use Rattle.std.specs.Prelude.{ℕ, ◌+◌, ◌*◌, ◌-◌, ◌/◌, ◌%◌, List, Bool, cond, ◌&&◌, ltb, eqb, length, get_or, take, drop, replicate}
 use Rattle.refusal.specs.Table.{accepted, not_padded}
 use Rattle.buffers.specs.Same.{same}
 use Rattle.word.specs.BigEndian.{number_of}

@@ -1,5 +1,6 @@
 // Padded messages: the view of their blocks, and the remover.
 #![tactic(auto)]
+
 ghost use Rattle.std.specs.Prelude.{◌≡◌, ◌+◌, ◌≤◌, length};
 ghost use Rattle.buffers.specs.Same.{same};
 ghost use Rattle.units.specs.Units.{longest};

@@ -1,5 +1,5 @@
 -- "Padding of m bytes": document 01, "SM3, condensed"; document 003, 5.2, for whole bytes.
-use Rattle.std.specs.Prelude.{ℕ, ◌+◌, ◌*◌, ◌-◌, ◌/◌, ◌%◌, ◌^◌, List, ◌∷◌, ◌++◌, length, replicate}
+use Rattle.std.specs.Prelude.{ℕ, ◌+◌, ◌*◌, ◌-◌, ◌/◌, ◌%◌, List, ◌∷◌, ◌++◌, length, replicate}
 use Rattle.word.specs.BigEndian.{big_endian}
 
 -- "the fewest zero bytes that make the length 56 modulo 64": the length after the byte 80 is m + 1. Document 003 counts bits: its 1 and

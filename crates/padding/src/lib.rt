@@ -1,5 +1,6 @@
 // Padding: its block count and the writer.
 #![tactic(auto)]
+
 ghost use Rattle.std.specs.Prelude.{◌≡◌, ◌∷◌, ◌++◌, ◌+◌, ◌-◌, ◌≤◌, ◌<◌, length, take, drop, replicate};
 ghost use Rattle.word.specs.BigEndian.{big_endian};
 ghost use Rattle.padding.specs.Padding.{block_count};

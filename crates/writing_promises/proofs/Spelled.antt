@@ -109,5 +109,6 @@ digest_stored text bytes d =
     record { long = omega (arith, two_a_byte text bytes d.0); bytes = λ i below. pairs_small text bytes d.0 i }
 
 pub lines_stored : (text : List ℕ) (es : List Entry) → Lines text es → (e : Entry) → Among e es → StoredDigest e.sample.digest
+lines_stored _ _ no_line e among = elim among [ ]
 lines_stored text es (line l ls) e first = digest_stored l.digest e.sample.digest l.is_digest
 lines_stored text es (line {rest = rest} {es = more} l ls) e (further a) = lines_stored rest more ls e a

@@ -1,5 +1,4 @@
 use Rattle.folding.proofs.Ring.{four_gone}
-use borrow.Author.Rules.{rules}
 use Rattle.folding.proofs.all_rounds.Goals as goal
 
 pub returns : goal.returns

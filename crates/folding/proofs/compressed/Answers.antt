@@ -1,5 +1,4 @@
 use Rattle.folding.proofs.Ring.{compressed_by}
-use borrow.Author.Rules.{rules}
 use Rattle.folding.proofs.compressed.Goals as goal
 
 pub returns : goal.returns

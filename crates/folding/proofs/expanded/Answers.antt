@@ -1,9 +1,5 @@
-use mathlib.Core.Path.{◌≡◌, refl}
-use Prim.Native.Nat.{◌≤◌, ◌-◌}
-use lib.ListN.{length, take}
+use mathlib.Core.Path.{refl}
 use borrow.Author.Rules.{rules}
-use Rattle.standard.specs.Standard.{expansion}
-use Rattle.folding.specs.Ring.{Ring}
 use Rattle.folding.proofs.Ring.{ring_first, word_seen, all_seen}
 use Rattle.folding.proofs.expanded.Goals as goal
 

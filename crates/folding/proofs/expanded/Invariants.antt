@@ -1,10 +1,8 @@
-use mathlib.Core.Path.{◌≡◌, refl}
+use mathlib.Core.Path.{◌≡◌}
 use Prim.Native.Nat.{◌≤◌, ◌-◌}
 use lib.ListN.{length, take}
-use borrow.Author.Rules.{rules}
 use Rattle.standard.specs.Standard.{expansion}
 use Rattle.folding.specs.Ring.{Ring}
-use Rattle.folding.proofs.Ring.{ring_first, word_seen, all_seen}
 use Rattle.folding.proofs.expanded.Given as goal
 
 abbrev pub invariant-loop-j : goal.invariant-loop-j

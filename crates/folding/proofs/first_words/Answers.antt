@@ -1,6 +1,4 @@
-use mathlib.Core.Path.{◌≡◌, refl}
-use Prim.Native.Nat.{◌≤◌, ◌-◌}
-use lib.ListN.{length, take}
+use mathlib.Core.Path.{refl}
 use borrow.Author.Rules.{rules}
 use Rattle.standard.specs.Standard.{split}
 use Rattle.folding.proofs.Laid.{word_laid, block_laid}

@@ -1,9 +1,7 @@
-use mathlib.Core.Path.{◌≡◌, refl}
+use mathlib.Core.Path.{◌≡◌}
 use Prim.Native.Nat.{◌≤◌, ◌-◌}
 use lib.ListN.{length, take}
-use borrow.Author.Rules.{rules}
 use Rattle.standard.specs.Standard.{split}
-use Rattle.folding.proofs.Laid.{word_laid, block_laid}
 use Rattle.folding.proofs.first_words.Given as goal
 
 abbrev pub invariant-loop-j : goal.invariant-loop-j

@@ -1,10 +1,7 @@
-use mathlib.Core.Path.{◌≡◌}
-use Prim.Native.Nat.{◌≤◌, ◌-◌}
-use lib.ListN.{length, drop, length-take, length-drop}
+use lib.ListN.{length-take, length-drop}
 use native.Mathlib.Omega.{arith}
 use Rattle.folding.proofs.Walks.{walked_on, walked_out}
 use borrow.Author.Rules.{rules}
-use Rattle.standard.specs.Standard.{folded}
 use Rattle.folding.proofs.fold.Goals as goal
 
 pub compressed-n-requires : goal.compressed-n-requires

@@ -1,9 +1,6 @@
 use mathlib.Core.Path.{◌≡◌}
 use Prim.Native.Nat.{◌≤◌, ◌-◌}
-use lib.ListN.{length, drop, length-take, length-drop}
-use native.Mathlib.Omega.{arith}
-use Rattle.folding.proofs.Walks.{walked_on, walked_out}
-use borrow.Author.Rules.{rules}
+use lib.ListN.{length, drop}
 use Rattle.standard.specs.Standard.{folded}
 use Rattle.folding.proofs.fold.Given as goal
 

@@ -3,7 +3,6 @@ use mathlib.Core.Path.{refl, ap, ◌∙◌}
 use Rattle.standard.specs.Standard.{rest}
 use Rattle.hash.specs.State.{as_tail}
 use Rattle.hash.proofs.State.{parts, to_end}
-use borrow.Author.Rules.{rules}
 use Rattle.hash.proofs.after_blocks.Goals as goal
 
 pub returns : goal.returns

@@ -3,7 +3,6 @@ use mathlib.Core.Path.{sym, ap, ◌∙◌}
 use mathlib.Core.Bool.{Bool}
 use Rattle.refusal.specs.Table.{accepted}
 use Rattle.hash.proofs.Comparing.{compared_refused, compared_size, compared_same}
-use borrow.Author.Rules.{rules}
 use Rattle.hash.proofs.against.Goals as goal
 
 pub returns-then-number-ne-ACCEPTED : goal.returns-then-number-ne-ACCEPTED

@@ -1,17 +1,13 @@
 -- `digest_of` is the definition's answer: the writer refuses just what is too long, and what it puts behind the whole blocks makes the padded message. Assumes nothing.
-use mathlib.Core.Path.{◌≡◌, sym, ap₂, ◌∙◌}
+use mathlib.Core.Path.{sym, ap₂, ◌∙◌}
 use mathlib.Core.List.{List}
 use Prim.Native.Nat.{ℕ}
 use lib.Seq.{length-take-le}
 use Rattle.refusal.specs.Table.{accepted}
 use Rattle.standard.specs.declared.Words.{Words}
 use Rattle.standard.specs.Standard.{folded, hash_value}
-use Rattle.padding.specs.Writing.{tail_of}
-use Rattle.hash.proofs.Ending.{Holds, write_refuses, message_holds, message_digest}
-use borrow.Author.Rules.{rules}
+use Rattle.hash.proofs.Ending.{write_refuses, message_holds, message_digest}
 use Rattle.hash.proofs.digest_of.Goals as goal
-use Rattle.refusal.specs.declared.Written.{Written}
-use Rattle.padding.specs.Writing.{written, buffer_after}
 
 pub returns-then-written-ne-ACCEPTED : goal.returns-then-written-ne-ACCEPTED
 returns-then-written-ne-ACCEPTED c =

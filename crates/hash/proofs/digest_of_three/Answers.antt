@@ -1,5 +1,4 @@
 -- `digest_of_three` is the digest of the joined pieces. Assumes nothing.
-use borrow.Author.Rules.{rules}
 use Rattle.hash.proofs.Following.{three_pieces}
 use Rattle.hash.proofs.digest_of_three.Goals as goal
 

@@ -1,5 +1,4 @@
 -- `digest_of_two` is the digest of the joined pieces. Assumes nothing.
-use borrow.Author.Rules.{rules}
 use Rattle.hash.proofs.Following.{two_pieces}
 use Rattle.hash.proofs.digest_of_two.Goals as goal
 

@@ -4,7 +4,6 @@ use mathlib.Core.List.{List}
 use Prim.Native.Nat.{ℕ}
 use Rattle.refusal.specs.Table.{accepted}
 use Rattle.standard.specs.Standard.{hash_value}
-use borrow.Author.Rules.{rules}
 use Rattle.hash.proofs.ended.Goals as goal
 
 pub returns : goal.returns

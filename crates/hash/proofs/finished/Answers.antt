@@ -1,6 +1,5 @@
 -- `finished` is final, unless a refusal stays. Assumes nothing.
 use mathlib.Core.Path.{sym, ◌∙◌}
-use borrow.Author.Rules.{rules}
 use Rattle.hash.proofs.Following.{refused_ends, accepted_ends}
 use Rattle.hash.proofs.finished.Goals as goal
 

@@ -1,6 +1,5 @@
 -- `followed` goes on with a piece, unless a refusal stays. Assumes nothing.
 use mathlib.Core.Path.{sym, ◌∙◌}
-use borrow.Author.Rules.{rules}
 use Rattle.hash.proofs.Following.{refused_stays, goes_on}
 use Rattle.hash.proofs.followed.Goals as goal
 

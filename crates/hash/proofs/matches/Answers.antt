@@ -2,7 +2,6 @@
 use mathlib.Core.Path.{ap, ◌∙◌}
 use Rattle.hash.specs.Digests.{compared, compare_message}
 use Rattle.hash.specs.declared.Digest.{Digest}
-use borrow.Author.Rules.{rules}
 use Rattle.hash.proofs.matches.Goals as goal
 
 pub returns : goal.returns

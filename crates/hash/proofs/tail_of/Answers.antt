@@ -1,7 +1,6 @@
 -- `tail_of` copies bytes before zeros. Assumes nothing.
 use mathlib.Core.Path.{◌∙◌}
 use Rattle.hash.proofs.State.{tail_copied}
-use borrow.Author.Rules.{rules}
 use Rattle.hash.proofs.tail_of.Goals as goal
 
 pub returns : goal.returns

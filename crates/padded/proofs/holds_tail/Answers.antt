@@ -1,7 +1,6 @@
 -- `holds_tail` holds the tail against the message's last bytes, the fill and the stated length. Assumes nothing.
 use mathlib.Core.Path.{sym}
 use native.Mathlib.Omega.{arith}
-use borrow.Author.Rules.{rules}
 use lib.ListN.{length}
 use lib.Seq.{length-take-le}
 use Rattle.truth.proofs.Tests.{refuted, confirmed}

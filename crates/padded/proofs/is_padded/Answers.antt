@@ -2,7 +2,6 @@
 use Rattle.std.proofs.Common.{List, ℕ, length, ◌≡◌, ◌%◌}
 use mathlib.Core.Path.{◌∙◌}
 use native.Mathlib.Omega.{arith}
-use borrow.Author.Rules.{rules}
 use Rattle.units.specs.declared.InBytes.{InBytes}
 use Rattle.units.specs.Units.{bytes_of_bits}
 use Rattle.padded.specs.Removing.{stated_bits}

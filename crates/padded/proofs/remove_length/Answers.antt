@@ -1,6 +1,5 @@
 -- `remove_length` answers the m that the last eight bytes state, and 0 where the bytes are no padded message. Assumes nothing.
 use mathlib.Core.Path.{◌∙◌}
-use borrow.Author.Rules.{rules}
 use Rattle.truth.proofs.Tests.{refuted, confirmed}
 use Rattle.padded.proofs.Removed.{no_length, length_of, room, stated_bytes}
 use Rattle.padded.proofs.remove_length.Goals as goal

@@ -1,6 +1,5 @@
 -- `remove_number` asks whether the bytes are a padded message. Assumes nothing.
 use mathlib.Core.Path.{sym, ◌∙◌}
-use borrow.Author.Rules.{rules}
 use Rattle.padded.proofs.Removed.{accepts, refuses}
 use Rattle.padded.proofs.remove_number.Goals as goal
 

@@ -1,7 +1,6 @@
 -- `remove_part` lends the first so many bytes, where they lie. Assumes nothing.
 use mathlib.Core.Path.{refl, sym, ap}
 use native.Mathlib.Omega.{arith}
-use borrow.Author.Rules.{rules}
 use lib.ListN.{take}
 use lib.Seq.{length-take-le}
 use Rattle.padded.specs.Removing.{remove_part}

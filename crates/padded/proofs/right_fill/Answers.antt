@@ -1,6 +1,5 @@
 -- `right_fill` looks at byte m and then at the bytes between it and the last eight. Assumes nothing.
 use mathlib.Core.Path.{◌∙◌}
-use borrow.Author.Rules.{rules}
 use Rattle.padded.proofs.Parts.{no_80, then_zeros}
 use Rattle.padded.proofs.right_fill.Goals as goal
 

@@ -1,12 +1,9 @@
 -- `stated_bits` reads the last eight bytes in order. The invariant: their number is what is read so far, going on with what is left. Assumes nothing.
 use Prim.Native.Nat.{◌-◌, ◌^◌, ◌<◌, ◌≤◌}
-use mathlib.Core.Path.{◌≡◌, sym, ◌∙◌}
-use native.Mathlib.Omega.{arith}
-use borrow.Author.Rules.{rules}
+use mathlib.Core.Path.{◌≡◌}
 use lib.ListN.{length, drop}
 use Rattle.word.specs.BigEndian.{number_from}
 use Rattle.padded.specs.Removing.{stated_bits}
-use Rattle.padded.proofs.Numbers.{number_more, number_bound, number_fits, number_starts, number_begins, number_read}
 use Rattle.padded.proofs.stated_bits.Given as goal
 
 abbrev pub invariant-loop-i : goal.invariant-loop-i

@@ -1,7 +1,6 @@
 -- `view_part` lends the bytes of the block's place. Assumes nothing.
 use mathlib.Core.Logic.{⊎_elim}
 use native.Mathlib.Omega.{arith}
-use borrow.Author.Rules.{rules}
 use Rattle.padded.proofs.Lending.{ends, end_within, message_part, buffer_part, message_address, buffer_address}
 use Rattle.padded.proofs.view_part.Goals as goal
 

@@ -1,6 +1,5 @@
 -- `block_count` is the definition's count, summed so that nothing overflows. Assumes nothing.
 use native.Mathlib.Omega.{arith}
-use borrow.Author.Rules.{rules}
 use Rattle.padding.specs.Padding.{block_count}
 use Rattle.padding.proofs.block_count.Goals as goal
 

@@ -1,9 +1,8 @@
 -- `close` puts the byte, the zeros and the number one after the other. Assumes nothing.
 use Prim.Native.Nat.{ℕ, ◌+◌, ◌-◌}
-use mathlib.Core.Path.{◌≡◌, ap, ap₂, ◌∙◌}
-use native.Mathlib.Omega.{arith}
+use mathlib.Core.Path.{ap₂, ◌∙◌}
 use borrow.Author.Rules.{rules}
-use lib.ListN.{length, set, replicate, length-set, length-replicate}
+use lib.ListN.{replicate, length-replicate}
 use Rattle.buffers.specs.Copy.{copied}
 use Rattle.word.specs.BigEndian.{big_endian}
 use Rattle.word.proofs.BigEndian.{length_bigEndian}

@@ -1,6 +1,5 @@
 -- `pad` writes the padding behind the bytes that stand in the buffer, or leaves it alone where the answer refuses. Assumes nothing.
 use mathlib.Core.Path.{◌∙◌}
-use borrow.Author.Rules.{rules}
 use Rattle.padding.proofs.Tails.{left_alone, starts, ends, big, padded_behind}
 use Rattle.padding.proofs.pad.Goals as goal
 

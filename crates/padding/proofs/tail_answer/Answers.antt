@@ -3,7 +3,6 @@ use Rattle.std.proofs.Common.{true}
 use mathlib.Core.Path.{◌≡◌, sym, ap, ◌∙◌}
 use Prim.Native.Nat.{◌≤◌}
 use borrow.Author.Rules.{rules}
-use borrow.Author.Tests.{not-true, not-false}
 use Rattle.units.proofs.Exact.{few, many}
 use Rattle.units.specs.Units.{longest, bits_of}
 use Rattle.refusal.specs.Table.{wrote}

@@ -1,6 +1,5 @@
 -- `write` copies the message's last bytes to the front and pads behind them, or leaves the buffer alone where the answer refuses. Assumes nothing.
 use mathlib.Core.Path.{◌∙◌}
-use borrow.Author.Rules.{rules}
 use Rattle.padding.specs.Writing.{written}
 use Rattle.padding.proofs.Wholes.{unwritten, written_is, written_leaves}
 use Rattle.padding.proofs.write.Goals as goal

@@ -7,7 +7,6 @@ use Rattle.hash.specs.State.{as_tail}
 use lib.Seq.{length-take-le}
 use Rattle.hash.proofs.State.{parts, to_end}
 use Rattle.hash.proofs.Taking.{afterPiece_whole, afterPiece_short, afterPiece_long}
-use borrow.Author.Rules.{rules}
 use Rattle.hash.proofs.Hash.after_piece.Goals as goal
 
 pub returns-then-kept-eq0 : goal.returns-then-kept-eq0

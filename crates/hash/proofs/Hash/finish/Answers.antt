@@ -14,9 +14,7 @@ use Rattle.refusal.specs.declared.Written.{Written}
 use Rattle.buffers.specs.Copy.{copied}
 use Rattle.padding.specs.Writing.{tail_answer, tail_after}
 use mathlib.Core.Path.{◌≡◌, sym, ap, ◌∙◌}
-use borrow.Author.Tests.{not-true, not-false}
 use Rattle.hash.proofs.Cutting.{finish_spoilt, finish_folds}
-use borrow.Author.Rules.{rules}
 use Rattle.hash.proofs.Hash.finish.Goals as goal
 
 -- the state is in order, and the buffer then holds its kept bytes and their padding

@@ -1,6 +1,5 @@
 -- `in_order` decides whether a state is in order. Assumes nothing.
 use mathlib.Core.Path.{◌≡◌, sym, ◌∙◌}
-use native.Mathlib.Omega.{arith}
 use borrow.Author.Rules.{rules}
 use lib.ListN.{length}
 use Rattle.hash.proofs.State.{too_much, trailing_zeros}

@@ -3,7 +3,6 @@ use mathlib.Core.Path.{ap₂}
 use mathlib.Core.Bool.{Bool, ◌&&◌}
 use lib.Dec.{eqb}
 use Rattle.hash.specs.State.{is_fresh}
-use borrow.Author.Rules.{rules}
 use Rattle.hash.proofs.Hash.is_fresh.Goals as goal
 
 pub returns : goal.returns

@@ -1,14 +1,10 @@
 -- `update` is the definition's answer: 9, 10, or the state with the piece taken. Assumes nothing.
-use mathlib.Core.Path.{◌≡◌, sym, ap, ◌∙◌}
-use mathlib.Core.Bool.{true}
+use mathlib.Core.Path.{sym, ap, ◌∙◌}
 use native.Mathlib.Omega.{arith}
 use Rattle.refusal.specs.Table.{accepted}
-use Rattle.hash.specs.State.{in_order}
 use Rattle.hash.specs.declared.Hash.{Hash}
-use borrow.Author.Tests.{not-true, not-false}
 use Rattle.hash.proofs.State.{total_le}
 use Rattle.hash.proofs.Updating.{update_spoilt, update_passes, update_takes}
-use borrow.Author.Rules.{rules}
 use Rattle.hash.proofs.Hash.update.Goals as goal
 
 pub returns-then-not-in_order : goal.returns-then-not-in_order

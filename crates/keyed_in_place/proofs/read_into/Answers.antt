@@ -1,0 +1,7 @@
+-- `read_into` judges the MAC line, and reads as a sheet what it covers. Assumes nothing.
+use Rattle.keyed.proofs.Sheets.{answered}
+use Rattle.keyed_in_place.proofs.read_into.Goals as goal
+
+pub returns : goal.returns
+returns c =
+    answered c.args.key.now c.args.text.now _ _ _ _ _ c.mac_number-number.ensures c.covered-sheet.ensures.result_value c.read_into-v.ensures c.verdict_of.ensures
