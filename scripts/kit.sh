@@ -47,7 +47,10 @@ link_x86() {
 
 # sources: at the top of the repository, a sum of all that a proof goes by: the kit, and the crates' files
 sources() {
-    { rt version; find crates crates.txt -type d -name out -prune -o -type f \( -name '*.rt' -o -name '*.antt' -o -name crates.txt \) -print0 | sort -z | xargs -0 sha256sum; } | sha256sum
+    {
+        rt version
+        find crates crates.txt -type d -name out -prune -o -type f \( -name '*.rt' -o -name '*.antt' -o -name crates.txt \) -print0 | sort -z | xargs -0 sha256sum
+    } | sha256sum
 }
 
 # made NAME SOURCES: at the top, notes that the program crates/NAME/out/NAME, as it now is, was proved and built of these sources

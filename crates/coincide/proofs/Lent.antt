@@ -1,6 +1,6 @@
 -- A session as a call is lent it: its digests are of 32 bytes, each below 256, by their type. Assumes nothing.
 use Prim.Native.Nat.{ℕ, zero, suc, ◌-◌, ◌<◌}
-use mathlib.Core.Path.{◌≡◌, sym, subst}
+use mathlib.Core.Path.{sym, subst}
 use mathlib.Core.List.{List, [], ◌∷◌}
 use native.Mathlib.Omega.{arith}
 use lib.ListN.{length, get_or}
@@ -14,7 +14,6 @@ use Rattle.slots.specs.contracts.Slot as OneSlot
 use Rattle.slots.specs.Slots.{empty_slot}
 use Rattle.slots.specs.declared.Slot.{Slot}
 use Rattle.session.specs.contracts.Session as AllSlots
-use Rattle.session.specs.Sessions.{slot_of}
 use Rattle.session.specs.declared.Session.{Session}
 use Rattle.session.proofs.Proved.{proved as session}
 use Rattle.writing_promises.specs.Promises.{StoredDigest, DigestsStored}

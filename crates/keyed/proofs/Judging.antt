@@ -1,11 +1,10 @@
 -- The MAC line and its code, judged as the code does it: each way through by its own law. Assumes nothing.
-use mathlib.Core.Path.{◌≡◌, refl, sym, ap, ◌∙◌}
+use mathlib.Core.Path.{◌≡◌, sym, ap, ◌∙◌}
 use Prim.Native.Nat.{ℕ, ◌-◌, ◌≤◌, ◌<◌}
-use native.Mathlib.Nat.{zero-sub}
 use native.Mathlib.Omega.{arith}
-use mathlib.Core.Bool.{Bool, true, false, ◌&&◌}
+use mathlib.Core.Bool.{true, false}
 use mathlib.Core.List.{List, [], ◌∷◌}
-use lib.Dec.{leb, eqb}
+use lib.Dec.{eqb}
 use lib.ListN.{length, get_or, take}
 use borrow.Author.Tests.{lt-ltb, le-ltb, le-leb, lt-leb, eq-eqb, ne_eqb}
 use Rattle.refusal.specs.Table.{accepted, too_long, no_mac_line, other_code}
@@ -18,11 +17,9 @@ use Rattle.lines.specs.declared.DigestField.{DigestField}
 use Rattle.lines.proofs.Marks.{has_in}
 use Rattle.mac.specs.Codes.{compare_message}
 use Rattle.session.specs.Sessions.{empty_session}
-use Rattle.session.specs.declared.Session.{Session}
 use Rattle.sheet.specs.Judging.{verdict_at, sheet_of}
-use Rattle.sheet.specs.declared.Sheet.{Sheet}
 use Rattle.sheet.specs.declared.Verdict.{Verdict}
-use Rattle.keyed.specs.Keyed.{mac_length, begins_line, mac_line_at, code_number, mac_number, covered, keyed_verdict, keyed_of}
+use Rattle.keyed.specs.Keyed.{begins_line, mac_line_at, code_number, mac_number, covered, keyed_verdict, keyed_of}
 
 -- where a line begins
 module _ (text : List ℕ) (at : ℕ) where

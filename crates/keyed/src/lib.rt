@@ -1,6 +1,7 @@
 // The keyed sheet: a rank sheet and one more line, the MAC line, with the code of all bytes before it. The code is judged before any line
 // of the sheet is.
 #![tactic(auto)]
+
 ghost use Rattle.std.specs.Prelude.{◌≡◌, ◌≤◌, length};
 ghost use Rattle.keyed.specs.Keyed.{begins_line, mac_line_at, code_number, mac_number, covered, keyed_verdict, keyed_of};
 

@@ -1,24 +1,20 @@
 -- A text ends in a MAC line exactly when its last 69 bytes are judged to be one. Assumes nothing.
-use Prim.Native.Nat.{ℕ, zero, suc, ◌+◌, ◌-◌, ◌≤◌, ◌<◌}
+use Prim.Native.Nat.{ℕ, zero, suc, ◌+◌, ◌-◌, ◌≤◌}
 use mathlib.Core.Path.{◌≡◌, refl, sym, ap, ◌∙◌}
-use mathlib.Core.Logic.{◌⊎◌, inl, inr}
+use mathlib.Core.Logic.{inl, inr}
 use mathlib.Core.List.{List, [], ◌∷◌, ◌++◌, append_assoc, append-nil}
-use mathlib.Core.Bool.{Bool, true}
-use native.Mathlib.Numerals.{add-one}
+use mathlib.Core.Bool.{true}
 use native.Mathlib.Omega.{arith}
 use borrow.Author.Tests.{eqb-true, eq-eqb}
-use lib.Dec.{eqb}
-use lib.ListN.{length, get_or, take, drop, length-append, length-drop, take-append-drop, drop_of_length-le}
-use lib.Seq.{take_at, drop_at, take-suc, take-append-le, get_or_at}
-use Rattle.truth.proofs.Tests.{below_or_not}
-use Rattle.lines.specs.Reading.{lf, good_stop, is_good}
+use lib.ListN.{length, get_or, take, drop, length-append, take-append-drop, drop_of_length-le}
+use lib.Seq.{take_at, drop_at, take-suc, get_or_at}
+use Rattle.lines.specs.Reading.{is_good}
 use Rattle.lines.specs.Fields.{good_digest}
-use Rattle.lines.specs.declared.DigestField.{DigestField}
 use Rattle.lines.specs.declared.Entry.{Entry}
 use Rattle.sheet_promises.specs.Grammar.{IsLine, Lines, no_line, line, IsSheet}
 use Rattle.keyed.specs.Keyed.{begins_line, mac_line_at}
 use Rattle.keyed.proofs.Judging.{begins_first, begins_behind}
-use Rattle.keyed_promises.specs.Grammar.{IsMacLine, LineBegins, EndsInMac}
+use Rattle.keyed_promises.specs.Grammar.{LineBegins, EndsInMac}
 use Rattle.keyed_promises.proofs.MacLines.{mac_length_lem, mac_read, mac_stands}
 
 -- what the reader asks of the last 69 bytes

@@ -1,8 +1,7 @@
 -- The crate's promises, proved. Assumes nothing.
-use Prim.Native.Nat.{ℕ, ◌+◌, ◌≤◌}
+use Prim.Native.Nat.{ℕ, ◌≤◌}
 use mathlib.Core.Path.{◌≡◌, refl, sym, ap, ◌∙◌}
-use mathlib.Core.Logic.{◌↔◌}
-use mathlib.Core.List.{List, [], ◌++◌}
+use mathlib.Core.List.{List, []}
 use native.Mathlib.Omega.{arith}
 use lib.ListN.{length, length-append}
 use Rattle.refusal.specs.Table.{accepted}
@@ -10,7 +9,6 @@ use Rattle.units.specs.Units.{longest}
 use Rattle.lines.specs.declared.DigestField.{DigestField}
 use Rattle.lines.specs.declared.Entry.{Entry}
 use Rattle.session.specs.declared.Session.{Session}
-use Rattle.sheet.specs.declared.Sheet.{Sheet}
 use Rattle.sheet.specs.declared.Verdict.{Verdict}
 use Rattle.sheet_promises.specs.Promises.{Lists}
 use Rattle.sheet_promises.proofs.Sheets.{never_accepted}

@@ -3,12 +3,11 @@ use Prim.Native.Nat.{ℕ, ◌+◌, ◌-◌, ◌≤◌, ◌<◌}
 use mathlib.Core.Path.{◌≡◌, refl, sym, ap, ap₂, ◌∙◌, subst}
 use mathlib.Core.Logic.{◌↔◌, ◌⊎◌, inl, inr}
 use mathlib.Core.List.{List, []}
-use mathlib.Core.Bool.{Bool, true, false}
 use native.Mathlib.Omega.{arith}
 use borrow.Author.Tests.{eqb-true, eqb-false}
 use lib.Dec.{eqb}
-use lib.ListN.{length, take}
-use Rattle.truth.proofs.Tests.{either, below_or_not, not_both, never}
+use lib.ListN.{length}
+use Rattle.truth.proofs.Tests.{either, below_or_not, not_both}
 use Rattle.buffers.specs.Same.{same}
 use Rattle.buffers.proofs.Comparing.{same_equal, equal_same}
 use Rattle.refusal.specs.Table.{accepted, too_long, no_mac_line, other_code}
@@ -25,10 +24,7 @@ use Rattle.mac.proofs.Proved.{proved as codes}
 use Rattle.session.specs.Sessions.{empty_session}
 use Rattle.session.specs.declared.Session.{Session}
 use Rattle.sheet.specs.Judging.{sheet_of}
-use Rattle.sheet.specs.declared.Sheet.{Sheet}
 use Rattle.sheet.specs.declared.Verdict.{Verdict}
-use Rattle.sheet_promises.specs.Grammar.{IsSheet}
-use Rattle.sheet_promises.specs.Faults.{Refused}
 use Rattle.sheet_promises.specs.Promises.{Lists}
 use Rattle.sheet_promises.proofs.Listing.{lists_none}
 use Rattle.sheet_promises.proofs.Proved.{proved as sheets}
@@ -37,7 +33,7 @@ use Rattle.keyed.proofs.Judging.{code_refused, code_fits as fits_code, code_othe
 use Rattle.keyed_promises.specs.Grammar.{EndsInMac, IsKeyedSheet}
 use Rattle.keyed_promises.specs.Answers.{MacRow, Answered, long_key, no_mac_line_row, long_text, other_code_row, code_fits, mac_refused, bad_sheet, is_read}
 use Rattle.keyed_promises.proofs.MacLines.{code_length}
-use Rattle.keyed_promises.proofs.Endings.{Judged, ends_judged, judged_ends, sheet_begins}
+use Rattle.keyed_promises.proofs.Endings.{ends_judged, judged_ends, sheet_begins}
 
 -- the code of bytes, by their size and by what it should be: the comparison's row
 module _ (key bytes code : List ℕ) (fits : length key ≤ longest) where

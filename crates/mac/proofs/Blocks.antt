@@ -1,10 +1,10 @@
 -- A key's block, and the block xored. Assumes nothing.
 use mathlib.Core.Path.{◌≡◌, refl, sym, ap, ◌∙◌}
-use Prim.Native.Nat.{ℕ, zero, suc, ◌+◌, ◌-◌, ◌%◌, ◌≤◌, ◌<◌}
+use Prim.Native.Nat.{ℕ, zero, suc, ◌+◌, ◌-◌, ◌≤◌, ◌<◌}
 use native.Mathlib.Nat.{zero-add}
 use native.Mathlib.Omega.{arith}
 use mathlib.Core.Logic.{inl, inr}
-use mathlib.Core.List.{List, [], ◌∷◌, ◌++◌, append-nil}
+use mathlib.Core.List.{List, [], ◌∷◌, append-nil}
 use lib.Bits.{bit_xor}
 use lib.ListN.{length, get_or, set, replicate, length-append, length-replicate, drop_of_length-le}
 use lib.Seq.{paste, take_all}
@@ -14,13 +14,11 @@ use Rattle.units.specs.Units.{longest}
 use Rattle.buffers.specs.Copy.{copied}
 use Rattle.buffers.proofs.Copied.{paste_more}
 use Rattle.refusal.specs.Table.{accepted}
-use Rattle.standard.specs.Standard.{IV, folded, rest}
 use Rattle.standard.proofs.Folding.{rest_whole}
 use Rattle.hash.specs.Sm3.{sm3}
 use Rattle.hash.specs.State.{fresh, as_tail}
 use Rattle.hash.specs.Update.{after_piece, update as hash_update}
 use Rattle.hash.specs.Digests.{digest}
-use Rattle.hash.specs.declared.Hash.{Hash}
 use Rattle.hash.specs.declared.Digest.{Digest}
 use Rattle.hash.proofs.State.{parts, tail_copied, inOrder_fresh}
 use Rattle.hash.proofs.Taking.{afterPiece_whole}

@@ -1,6 +1,6 @@
 -- Pieces given one after the other go into the inner state; and the code at the end. Assumes nothing.
-use mathlib.Core.Path.{◌≡◌, refl, sym, ap, ◌∙◌}
-use Prim.Native.Nat.{ℕ, ◌+◌, ◌≤◌, ◌<◌}
+use mathlib.Core.Path.{◌≡◌, refl, ap, ◌∙◌}
+use Prim.Native.Nat.{ℕ, ◌+◌, ◌≤◌}
 use native.Mathlib.Omega.{arith}
 use mathlib.Core.Bool.{true}
 use mathlib.Core.List.{List, [], ◌∷◌, ◌++◌}
@@ -8,7 +8,7 @@ use lib.ListN.{length, replicate, length-append}
 use Rattle.refusal.specs.Table.{accepted}
 use Rattle.units.specs.Units.{longest}
 use Rattle.hash.specs.Sm3.{sm3}
-use Rattle.hash.specs.State.{fresh, in_order as hash_in_order}
+use Rattle.hash.specs.State.{fresh}
 use Rattle.hash.specs.Update.{after_piece}
 use Rattle.hash.specs.Cutting.{joined}
 use Rattle.hash.proofs.State.{inOrder_fresh}
@@ -16,7 +16,7 @@ use Rattle.hash.proofs.Taking.{afterPiece_nil, afterPiece_join, total_afterPiece
 use Rattle.hash.proofs.Updating.{update_takes as hash_takes}
 use Rattle.hash.proofs.Cutting.{finish_fresh}
 use Rattle.hash.proofs.Refusing.{length_sm3}
-use Rattle.mac.specs.Hmac.{◌⊕◌, ipad, opad, key_block, hmac}
+use Rattle.mac.specs.Hmac.{hmac}
 use Rattle.mac.specs.Codes.{started, in_order, update, finish}
 use Rattle.mac.specs.Cutting.{after_all_of, numbers_of}
 use Rattle.mac.specs.declared.Code.{Code}

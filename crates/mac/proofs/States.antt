@@ -1,5 +1,5 @@
 -- The code state: in order, and what its calls answer, by cases. Assumes nothing.
-use mathlib.Core.Path.{◌≡◌, refl, sym, ap, ◌∙◌}
+use mathlib.Core.Path.{◌≡◌, ap, ◌∙◌}
 use mathlib.Core.Logic.{inl, inr}
 use Prim.Native.Nat.{ℕ, ◌+◌, ◌≤◌, ◌<◌}
 use native.Mathlib.Nat.{zero-add}
@@ -15,8 +15,6 @@ use Rattle.units.specs.Units.{longest}
 use Rattle.hash.specs.State.{fresh, in_order as hash_in_order}
 use Rattle.hash.specs.Update.{after_piece, update as hash_update}
 use Rattle.hash.specs.Digests.{no_digest, finish as hash_finish}
-use Rattle.hash.specs.declared.Hash.{Hash}
-use Rattle.hash.specs.declared.Updated.{Updated}
 use Rattle.hash.proofs.State.{inOrder_fresh}
 use Rattle.hash.proofs.Taking.{total_afterPiece, inOrder_afterPiece}
 use Rattle.hash.proofs.Updating.{update_takes as hash_takes, update_passes as hash_passes}
@@ -25,7 +23,6 @@ use Rattle.mac.specs.Hmac.{◌⊕◌, ipad, opad, key_block}
 use Rattle.mac.specs.Codes.{started, start, in_order, update, finish}
 use Rattle.mac.specs.Promises.{Ordered, after_block}
 use Rattle.mac.specs.declared.Code.{Code}
-use Rattle.mac.specs.declared.CodeUpdated.{CodeUpdated}
 use Rattle.mac.proofs.Blocks.{length_xored, length_block, fresh_takes, block_taken}
 
 -- the four tests

@@ -1,5 +1,6 @@
 // HMAC over SM3, as RFC 2104 defines it: a code of 32 bytes for a key and a message.
 #![tactic(auto)]
+
 ghost use Rattle.std.specs.Prelude.{◌≡◌, ◌≤◌, length, replicate};
 ghost use Rattle.hash.specs.State.{fresh};
 ghost use Rattle.hash.specs.Update.{update as hash_update};

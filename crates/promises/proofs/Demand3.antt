@@ -1,6 +1,6 @@
 -- Demand 3, from the slot that a note's accepted bytes reach.
 use mathlib.Core.Path.{◌≡◌, refl, sym, ap, ◌∙◌}
-use mathlib.Core.Logic.{◌↔◌, ◌⊎◌, inl, inr}
+use mathlib.Core.Logic.{◌↔◌}
 use mathlib.Core.List.{List, [], ◌∷◌, ◌++◌, append-nil}
 use mathlib.Core.Bool.{Bool, true, false, cond}
 use Prim.Native.Nat.{ℕ, ◌+◌, ◌≤◌, ◌<◌}
@@ -8,11 +8,11 @@ use native.Mathlib.Omega.{arith}
 use lib.Dec.{leb}
 use lib.ListN.{length, length-append}
 use borrow.Author.Tests.{leb-true, leb-false}
-use Rattle.refusal.specs.Table.{accepted, unlisted, decided, past_length}
+use Rattle.refusal.specs.Table.{accepted, decided, past_length}
 use Rattle.buffers.specs.Same.{same}
 use Rattle.buffers.proofs.Comparing.{same_equal, equal_same, differ_same, same_differ}
 use Rattle.hash.specs.Sm3.{sm3}
-use Rattle.slots.specs.Slots.{none, waiting, opened, shut, empty_slot, waiting_slot}
+use Rattle.slots.specs.Slots.{opened, shut}
 use Rattle.rules.proofs.Rules.{is_note_is}
 use Rattle.slots.specs.Delivery.{as_it_stands, deliver_to, on_slot}
 use Rattle.session.specs.Sessions.{slot_of}

@@ -1,11 +1,10 @@
 -- What the words of specs/Sequences.antt mean, proved. Assumes nothing.
 use Prim.Native.Nat.{ℕ}
 use mathlib.Core.Path.{◌≡◌, refl}
-use mathlib.Core.List.{List, [], ◌∷◌}
-use mathlib.Core.Bool.{false, ◌&&◌}
+use mathlib.Core.List.{List, []}
 use borrow.Author.Tests.{eq-eqb, ne_eqb}
 use Rattle.refusal.specs.Table.{accepted}
-use Rattle.session.specs.Operations.{Operation, delivery, note_of, deliver, perform, doing}
+use Rattle.session.specs.Operations.{Operation, note_of, deliver, perform, doing}
 use Rattle.session.specs.declared.Session.{Session}
 use Rattle.promises.specs.Sequences.{after, piece_of, added_bytes, accepted_bytes, own_operations, own_answers}
 use Rattle.promises.specs.Sequencing.{Step, Sequencing}

@@ -7,7 +7,6 @@ use native.Mathlib.Omega.{arith}
 use lib.ListN.{length, get_or}
 use Rattle.truth.proofs.Tests.{agree, first, second, both, never}
 use Rattle.slots.specs.Slots.{empty_slot}
-use Rattle.slots.proofs.Proved.{proved as slots}
 use Rattle.session.specs.Sessions.{slot_of}
 use Rattle.session.specs.Light.{ready}
 use Rattle.session.specs.declared.Session.{Session}

@@ -1,7 +1,7 @@
 -- What the words of specs/Sequences.antt mean, step by step.
 use Rattle.std.specs.Prelude.{ℕ, ◌≡◌, List, [], ◌∷◌, ◌++◌}
 use Rattle.refusal.specs.Table.{accepted}
-use Rattle.session.specs.Operations.{Operation, delivery, note_of, deliver}
+use Rattle.session.specs.Operations.{Operation, delivery, deliver}
 use Rattle.session.specs.declared.Session.{Session}
 use Rattle.promises.specs.Sequences.{after, accepted_bytes, own_operations, own_answers}
 

@@ -1,11 +1,11 @@
 -- Document 01's sheet follows the sheet rules, field by field. Assumes nothing.
 use Prim.Native.Nat.{ℕ, zero, suc, ◌+◌, ◌*◌, ◌<◌, ◌≤◌}
-use mathlib.Core.Path.{◌≡◌, refl, sym, ap, ◌∙◌}
+use mathlib.Core.Path.{◌≡◌, refl, sym, ◌∙◌}
 use mathlib.Core.List.{List, [], ◌∷◌, ◌++◌}
 use mathlib.Core.Logic.{inl}
 use mathlib.Core.Bool.{true}
 use native.Mathlib.Omega.{arith}
-use lib.ListN.{length, replicate}
+use lib.ListN.{replicate}
 use Rattle.hex_digits.specs.Digits.{IsDigit}
 use Rattle.decimal.specs.Numbers.{figure, longer, IsNumber}
 use Rattle.rules.specs.Rules.{count_rule, is_note, note_rule, length_rule, loop_rule}
@@ -14,17 +14,15 @@ use Rattle.hash.proofs.Proved.{proved as hash}
 use Rattle.hash.specs.State.{fresh}
 use Rattle.rules.specs.declared.Record.{Record}
 use Rattle.lines.specs.declared.Entry.{Entry}
-use Rattle.slots.specs.declared.Slot.{Slot}
 use Rattle.slots.specs.Slots.{slot_in_order}
 use Rattle.slots.proofs.Proved.{proved as slot}
 use Rattle.session.specs.Sessions.{slot_of}
 use Rattle.session.specs.Operations.{ask}
 use Rattle.session.specs.Promises.{Waits, ask_waiting}
-use Rattle.session.specs.declared.Session.{Session}
 use Rattle.session.proofs.Proved.{proved as session}
 use Rattle.sheet.specs.Judging.{sheet_of}
 use Rattle.sheet_promises.specs.Grammar.{Pairs, no_pair, pair, IsDigest, IsField, IsHeader, IsLine, line, no_line, entry, no_entry_lem, IsSheet}
-use Rattle.sheet_promises.specs.Promises.{Among, first, further, Lists, freshly_waiting}
+use Rattle.sheet_promises.specs.Promises.{Among, first, Lists, freshly_waiting}
 use Rattle.sheet_promises.proofs.Proved.{proved as sheet}
 use Rattle.sheet_promises.specs.Faults.{here, breaks, loop}
 use Rattle.sheet_promises.specs.Faults as faults

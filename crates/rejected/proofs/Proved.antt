@@ -1,15 +1,11 @@
 -- The crate's promises, proved. Assumes nothing.
 use Prim.Native.Nat.{ℕ, ◌+◌, ◌≤◌}
 use mathlib.Core.Path.{◌≡◌, refl, sym, ap, ◌∙◌}
-use mathlib.Core.List.{List, [], ◌∷◌}
+use mathlib.Core.List.{List}
 use lib.ListN.{length, replicate, length-replicate}
 use native.Mathlib.Nat.{zero-add}
 use native.Mathlib.Omega.{arith}
 use Rattle.hash.specs.State.{fresh}
-use Rattle.hash.specs.Update.{update}
-use Rattle.hash.specs.Digests.{finish}
-use Rattle.rules.specs.Promises.{Obeyed}
-use Rattle.rules.specs.declared.Record.{Record}
 use Rattle.slots.specs.Promises.{OutcomeOf}
 use Rattle.slots.specs.declared.Slot.{Slot}
 use Rattle.session.specs.Sessions.{slot_of}

@@ -1,8 +1,8 @@
 -- Every promise of the crate, proved. Assumes nothing.
-use Prim.Native.Nat.{ℕ, ◌<◌, ◌≤◌}
-use mathlib.Core.Path.{◌≡◌, refl, sym, ap}
+use Prim.Native.Nat.{ℕ, ◌<◌}
+use mathlib.Core.Path.{◌≡◌, refl}
 use mathlib.Core.Logic.{◌⊎◌, inl, inr}
-use mathlib.Core.Bool.{true, false}
+use mathlib.Core.Bool.{false}
 use mathlib.Core.List.{List}
 use native.Mathlib.Omega.{arith}
 use lib.ListN.{length, get_or}
@@ -10,8 +10,7 @@ use Rattle.truth.proofs.Tests.{never}
 use Rattle.rules.specs.Rules.{is_note}
 use Rattle.rules.proofs.Rules.{is_note_is}
 use Rattle.slots.specs.Slots.{empty_slot}
-use Rattle.slots.specs.declared.Slot.{Slot}
-use Rattle.session.specs.Sessions.{empty_session, slot_index, slot_of, put_slot}
+use Rattle.session.specs.Sessions.{empty_session, slot_of, put_slot}
 use Rattle.session.specs.Light.{ready, put_counted}
 use Rattle.session.specs.Operations.{on_note, deliver, ask, delivery, note_of, doing, perform}
 use Rattle.slots.specs.Delivery.{deliver_at}

@@ -1,7 +1,7 @@
 -- What is promised from ANY stored session. All of it is proved in proofs/Proved.antt.
 use Rattle.std.specs.Prelude.{ℕ, ◌+◌, ◌-◌, ◌≤◌, ◌<◌, ◌≡◌, ◌↔◌, ◌⊎◌, List, [], true, false, length, get_or}
 use Rattle.refusal.specs.Table.{accepted, unlisted, slot_not_in_order, decided, past_length}
-use Rattle.slots.specs.Slots.{waiting, slot_in_order, empty_slot}
+use Rattle.slots.specs.Slots.{slot_in_order, empty_slot}
 use Rattle.slots.specs.Delivery.{with_piece, deliver_to, on_slot, deliver_at, ask_at}
 use Rattle.slots.specs.Promises.{Decided}
 use Rattle.slots.specs.declared.Slot.{Slot}

@@ -1,5 +1,6 @@
 // The loading session: 32 slots, one a note, and the rank-ready light's two counts.
 #![tactic(auto)]
+
 ghost use Rattle.std.specs.Prelude.{◌≡◌};
 ghost use Rattle.session.specs.Sessions.{empty_session, slot_index};
 ghost use Rattle.session.specs.Light.{open_after, all_open, ready};

@@ -21,7 +21,6 @@ use Rattle.sheet.specs.Filling.{start, listing, with_listed}
 use Rattle.lines.specs.declared.Field.{Field}
 use Rattle.lines.specs.declared.Entry.{Entry}
 use Rattle.sheet.specs.declared.Verdict.{Verdict}
-use Rattle.sheet.specs.declared.Sheet.{Sheet}
 use Rattle.sheet.specs.declared.Start.{Start}
 use Rattle.sheet.specs.declared.Listing.{Listing}
 use Rattle.sheet.proofs.Verdicts.{most_notes, header_decides}

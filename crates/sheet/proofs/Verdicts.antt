@@ -5,11 +5,9 @@ use mathlib.Core.List.{List}
 use mathlib.Core.Bool.{Bool, true, false}
 use native.Mathlib.Nat.{sub-zero}
 use native.Mathlib.Omega.{arith}
-use borrow.Author.Tests.{leb-true, le-leb, lt-leb, lt-ltb, le-ltb, eq-eqb, ne_eqb}
-use lib.Dec.{leb, ltb, eqb}
+use borrow.Author.Tests.{lt-ltb, le-ltb, eq-eqb, ne_eqb}
 use lib.ListN.{length}
 use Rattle.refusal.specs.Table.{accepted, form, count_or_note, bad_length, bad_loop}
-use Rattle.truth.proofs.Tests.{second}
 use Rattle.rules.proofs.Rules.{count_rule_is}
 use Rattle.rules.specs.Rules.{count_rule, note_rule, good_length, good_loop}
 use Rattle.lines.specs.Reading.{is_good}

@@ -1,5 +1,6 @@
 // The rank sheet, judged line by line, and the session that it gives.
 #![tactic(auto)]
+
 ghost use Rattle.std.specs.Prelude.{◌≡◌};
 ghost use Rattle.sheet.specs.Judging.{header_at, header_number, entry_number, note_number};
 ghost use Rattle.sheet.specs.Judging.{verdict_at, judged, entries_at, with_notes, sheet_of};

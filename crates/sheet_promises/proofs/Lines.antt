@@ -6,17 +6,13 @@ use mathlib.Core.Bool.{Bool, true, false, cond}
 use native.Mathlib.Omega.{arith}
 use lib.ListN.{length, drop}
 use Rattle.decimal.specs.Reading.{is_figure}
-use Rattle.lines.specs.Reading.{nothing, word, separator, tab, lf, good_stop, is_good, mark_at, word_at, mark_after, word_after}
-use Rattle.lines.specs.Fields.{good_field, field_at, digest_at, field_after, digest_after, field_fault, digest_fault}
+use Rattle.lines.specs.Reading.{word, separator, tab, lf, good_stop, is_good, mark_at, word_at, mark_after, word_after}
+use Rattle.lines.specs.Fields.{good_field, field_at, digest_at, field_after, digest_after}
 use Rattle.lines.specs.Lines.{good_line, line_fault, note_line, header_line, edition1}
 use Rattle.lines.specs.declared.Stop.{Stop}
 use Rattle.lines.specs.declared.Field.{Field}
 use Rattle.lines.specs.declared.DigestField.{DigestField}
 use Rattle.lines.specs.declared.Entry.{Entry}
-use Rattle.lines.specs.declared.NoteLine.{NoteLine}
-use Rattle.lines.proofs.Marks.{mark_goes, word_goes}
-use Rattle.lines.proofs.Places.{field_goes}
-use Rattle.lines.proofs.Digests.{digest_goes}
 use Rattle.sheet_promises.specs.Grammar.{IsLine, IsHeader}
 use Rattle.sheet_promises.proofs.Standing.{Part, part_of, joins_at, front_part, back_part}
 use Rattle.sheet_promises.proofs.Steps.{followed, mark_read, mark_stands, word_read, word_stands, field_read, field_stands}

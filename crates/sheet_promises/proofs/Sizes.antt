@@ -9,7 +9,7 @@ use lib.ListN.{length, length-append}
 use Rattle.decimal.specs.Numbers.{Decimal, figure, longer, IsNumber}
 use Rattle.rules.proofs.Rules.{count_rule_is, note_rule_is}
 use Rattle.lines.specs.declared.Entry.{Entry}
-use Rattle.sheet_promises.specs.Grammar.{IsDigest, IsField, IsHeader, IsLine, Lines, no_line, line, ObeysRules, AllObey, no_entry_lem, entry, IsSheet}
+use Rattle.sheet_promises.specs.Grammar.{IsDigest, IsField, IsHeader, IsLine, Lines, no_line, line, AllObey, no_entry_lem, entry, IsSheet}
 
 -- a number below a power of ten has as many figures at most
 figures_most : (n : ℕ) (text : List ℕ) (value : ℕ) → Decimal text value → value < 10 ^ suc n → length text ≤ suc n

@@ -1,6 +1,6 @@
 -- What is wrong with a text that is no sheet: document 01, "The rank sheet" and "Refusal numbers". No reader is in it.
 -- "Lines are judged in order and the first bad one decides. Within a line: form (1); then count or note (2); length (3); loop (4)."
-use Rattle.std.specs.Prelude.{ℕ, suc, ◌+◌, ◌<◌, ◌≤◌, ◌≡◌, List, ◌∷◌, ◌++◌, true, false}
+use Rattle.std.specs.Prelude.{ℕ, suc, ◌+◌, ◌≡◌, List, ◌∷◌, ◌++◌, true, false}
 use Rattle.refusal.specs.Table.{form, count_or_note, bad_length, bad_loop}
 use Rattle.rules.specs.Rules.{count_rule, note_rule, good_length, good_loop}
 use Rattle.lines.specs.declared.Entry.{Entry}

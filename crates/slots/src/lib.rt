@@ -1,5 +1,6 @@
 // One note's slot: whether it is in order, what a delivery makes of it, and what asking gives.
 #![tactic(auto)]
+
 ghost use Rattle.std.specs.Prelude.{◌≡◌};
 ghost use Rattle.slots.specs.Slots.{is_decided, state_in_order, slot_in_order, bytes_taken, empty_slot, waiting_slot};
 ghost use Rattle.slots.specs.Delivery.{bare_refusal, as_it_stands, decided_slot, with_piece, deliver_to, ask_of, is_listed, deliver_at, ask_at};

@@ -1,10 +1,8 @@
 -- What is answered, and how the writing begins, test by test. Assumes nothing.
 use Prim.Native.Nat.{ℕ, ◌+◌, ◌<◌, ◌≤◌}
-use mathlib.Core.Path.{◌≡◌, refl, sym, ap, ◌∙◌}
+use mathlib.Core.Path.{◌≡◌, refl}
 use mathlib.Core.List.{List}
-use mathlib.Core.Bool.{Bool, true, false, not}
-use native.Mathlib.Omega.{arith}
-use lib.Dec.{eqb, ltb}
+use mathlib.Core.Bool.{true, false, not}
 use lib.ListN.{length}
 use borrow.Author.Tests.{not-true, not-false, eq-eqb, ne_eqb, lt-ltb, le-ltb}
 use Rattle.buffers.specs.Copy.{copied}
@@ -12,7 +10,6 @@ use Rattle.refusal.specs.declared.Written.{Written}
 use Rattle.writing.specs.Texts.{header_text}
 use Rattle.writer.specs.Survey.{answer_of, beginning, with_header}
 use Rattle.writer.specs.declared.Found.{Found}
-use Rattle.writer.specs.declared.Begun.{Begun}
 
 module _ (found : Found) (room : ℕ) where
   pub spoilt : not found.unspoilt ≡ true → answer_of found room ≡ record { number = 6; count = 0 }

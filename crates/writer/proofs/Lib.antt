@@ -1,4 +1,3 @@
-pub mod Structs
 pub mod Slots
 pub mod Answers
 pub mod Sheets

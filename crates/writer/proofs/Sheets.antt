@@ -1,28 +1,27 @@
 -- From the survey to the sheet: what the slots come to, the line of each, and what is answered. Assumes nothing.
-use Prim.Native.Nat.{ℕ, zero, suc, ◌+◌, ◌-◌, ◌*◌, ◌<◌, ◌≤◌}
-use mathlib.Core.Path.{◌≡◌, refl, sym, ap, ◌∙◌, subst}
+use Prim.Native.Nat.{ℕ, zero, suc, ◌+◌, ◌-◌, ◌<◌, ◌≤◌}
+use mathlib.Core.Path.{◌≡◌, refl, sym, ap, ◌∙◌}
 use mathlib.Core.List.{List, [], ◌∷◌, ◌++◌, append_assoc}
 use mathlib.Core.Logic.{⊎_elim}
 use mathlib.Core.Bool.{Bool, true, false, cond}
 use native.Mathlib.Omega.{arith}
-use native.Mathlib.Nat.{add-zero, zero-add}
+use native.Mathlib.Nat.{zero-add}
 use native.Mathlib.Numerals.{add-one}
 use lib.Dec.{eqb, ltb}
 use lib.ListN.{length, get_or, drop, length-append}
-use borrow.Author.Tests.{eq-eqb, ltb-false, eqb-true}
+use borrow.Author.Tests.{ltb-false, eqb-true}
 use Rattle.buffers.specs.Copy.{copied}
 use Rattle.buffers.proofs.Copied.{copied_front}
 use Rattle.buffers.proofs.Zeros.{copied_none}
 use Rattle.refusal.specs.Table.{accepted, slot_not_in_order, none_listed, short_buffer, refused_by, wrote}
 use Rattle.truth.proofs.Tests.{either, below_or_not}
 use Rattle.slots.specs.Slots.{empty_slot}
-use Rattle.slots.specs.declared.Slot.{Slot}
 use Rattle.session.specs.Sessions.{slot_of}
 use Rattle.session.specs.declared.Session.{Session}
 use Rattle.session.proofs.Proved.{proved as session}
 use Rattle.lines.specs.declared.Entry.{Entry}
 use Rattle.writing.specs.Texts.{header_text, line_text, lines_text, sheet_text}
-use Rattle.writing.specs.Writing.{entry_of, entries_to, entries_of, unspoilt, unspoilt_to, write_number, sheet_written, with_sheet}
+use Rattle.writing.specs.Writing.{entry_of, entries_to, entries_of, unspoilt_to, write_number, sheet_written, with_sheet}
 use Rattle.writing.proofs.Laying.{length_copied, part_laid}
 use Rattle.writer.specs.Survey.{survey_to, with_slot, answer_of, beginning, with_header}
 use Rattle.writer.specs.declared.Found.{Found}

@@ -1,9 +1,8 @@
 -- What one slot adds: a line where its note is listed, nothing where it is not. Assumes nothing.
-use Prim.Native.Nat.{ℕ, ◌+◌, ◌*◌, ◌≤◌, ◌<◌}
-use mathlib.Core.Path.{◌≡◌, refl, sym, ap, ◌∙◌}
-use mathlib.Core.List.{List, [], ◌∷◌, ◌++◌, append-nil}
-use mathlib.Core.Bool.{Bool, true, false, not, cond, ◌&&◌, and-true}
-use native.Mathlib.Omega.{arith}
+use Prim.Native.Nat.{ℕ, ◌+◌}
+use mathlib.Core.Path.{◌≡◌, sym, ap, ◌∙◌}
+use mathlib.Core.List.{List, [], append-nil}
+use mathlib.Core.Bool.{Bool, true, false, not, ◌&&◌, and-true}
 use native.Mathlib.Nat.{add-zero}
 use lib.Dec.{eqb}
 use lib.ListN.{length}
@@ -20,9 +19,9 @@ use Rattle.writer.specs.declared.Found.{Found}
 
 module _ (note : ℕ) (slot : Slot) (found : Bool) (is_found : found ≡ not (eqb slot.status none)) where
   -- not listed: nothing
-  module _ (taken : not found ≡ true) where
+  module _ (taken : found ≡ false) where
     unlisted : eqb slot.status none ≡ true
-    unlisted = not-false (eqb slot.status none) (sym is_found ∙ not-true found taken)
+    unlisted = not-false (eqb slot.status none) (sym is_found ∙ taken)
 
     pub no_line : lines_text (entry_of note slot) ≡ []
     unfolding entry_of lines_text
@@ -36,9 +35,9 @@ module _ (note : ℕ) (slot : Slot) (found : Bool) (is_found : found ≡ not (eq
     none_put d at = rw no_line (sym (add-zero at), sym (copied_none d at))
 
   -- listed: its line
-  module _ (left : not found ≡ false) where
+  module _ (left : found ≡ true) where
     listed : eqb slot.status none ≡ false
-    listed = not-true (eqb slot.status none) (sym is_found ∙ not-false found left)
+    listed = not-true (eqb slot.status none) (sym is_found ∙ left)
 
     pub its_line : lines_text (entry_of note slot) ≡ line_text (record { note = note; sample = slot.sample })
     unfolding entry_of lines_text

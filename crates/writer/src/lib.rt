@@ -1,6 +1,7 @@
 // The rank sheet of a session that is lent, and only read, written into a lent buffer. The slots are gone through twice: nothing is written
 // before all of it is known to fit.
 #![tactic(auto)]
+
 ghost use Rattle.std.specs.Prelude.{◌≡◌, ◌+◌, ◌*◌, ◌<◌, ◌≤◌, true, not, ◌&&◌, eqb, length};
 ghost use Rattle.slots.specs.Slots.{none, slot_in_order};
 ghost use Rattle.buffers.specs.Copy.{copied};

@@ -1,6 +1,5 @@
 -- `begins_line` looks at the byte before. Assumes nothing.
 use mathlib.Core.Path.{sym}
-use borrow.Author.Rules.{rules}
 use Rattle.keyed.proofs.Judging.{begins_first, begins_behind}
 use Rattle.keyed.proofs.begins_line.Goals as goal
 

@@ -1,5 +1,4 @@
 -- `code_number` goes by the comparison of the code. Assumes nothing.
-use borrow.Author.Rules.{rules}
 use Rattle.keyed.proofs.Judging.{code_refused, code_fits, code_other}
 use Rattle.keyed.proofs.code_number.Goals as goal
 

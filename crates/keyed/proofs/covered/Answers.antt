@@ -1,7 +1,6 @@
 -- `covered` lends the bytes before the MAC line, where they lie. Assumes nothing.
 use mathlib.Core.Path.{refl, sym}
 use native.Mathlib.Omega.{arith}
-use borrow.Author.Rules.{rules}
 use lib.Seq.{length-take-le}
 use Rattle.keyed.proofs.Judging.{covered_none, covered_short, covered_all}
 use Rattle.keyed.proofs.covered.Goals as goal

@@ -1,5 +1,4 @@
 -- `mac_line` reads the MAC line, step by step. Assumes nothing.
-use borrow.Author.Rules.{rules}
 use Rattle.keyed.proofs.Judging.{mac_line_lem}
 use Rattle.keyed.proofs.mac_line.Goals as goal
 

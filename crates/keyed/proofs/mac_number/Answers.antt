@@ -1,7 +1,6 @@
 -- `mac_number` judges the key, the MAC line, and the code, in this order. Assumes nothing.
 use mathlib.Core.Path.{sym, ◌∙◌}
 use native.Mathlib.Omega.{arith}
-use borrow.Author.Rules.{rules}
 use lib.Seq.{length-take-le}
 use Rattle.truth.proofs.Tests.{refuted, confirmed}
 use Rattle.keyed.proofs.Judging.{key_past, too_short, not_begun_lem, bad_line, good_line_lem}

@@ -1,5 +1,4 @@
 -- `read` judges the MAC line, and reads as a sheet what it covers. Assumes nothing.
-use borrow.Author.Rules.{rules}
 use Rattle.sheet.proofs.Filling.{sheet_session}
 use Rattle.keyed.proofs.Sheets.{answered_whole}
 use Rattle.keyed.proofs.read.Goals as goal

@@ -1,8 +1,7 @@
 -- `code_of` is the formula; what refuses first stays. Assumes nothing.
-use mathlib.Core.Path.{◌≡◌, sym, ap, ap₂, ◌∙◌}
+use mathlib.Core.Path.{◌≡◌, sym, ap, ◌∙◌}
 use mathlib.Core.List.{List, ◌++◌}
 use Prim.Native.Nat.{ℕ}
-use borrow.Author.Rules.{rules}
 use lib.ListN.{replicate}
 use Rattle.hash.specs.Digests.{digest}
 use Rattle.hash.specs.declared.Digest.{Digest}

@@ -1,6 +1,5 @@
 -- `key_block` lays the key, or its digest, before zeros. Assumes nothing.
 use mathlib.Core.Path.{◌∙◌}
-use borrow.Author.Rules.{rules}
 use Rattle.mac.proofs.Blocks.{copied_short, copied_long}
 use Rattle.mac.proofs.key_block.Goals as goal
 

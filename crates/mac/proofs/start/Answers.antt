@@ -1,6 +1,5 @@
 -- `start` refuses a key that is too long, with the empty key's state. Assumes nothing.
 use mathlib.Core.Path.{sym, ap, ◌∙◌}
-use borrow.Author.Rules.{rules}
 use Rattle.refusal.specs.Table.{accepted, too_long}
 use Rattle.mac.specs.declared.Code.{Code}
 use Rattle.mac.proofs.States.{start_takes, start_passes}

@@ -3,13 +3,11 @@ use mathlib.Core.Path.{◌≡◌, ap, ap₂, ◌∙◌}
 use mathlib.Core.List.{List}
 use Prim.Native.Nat.{ℕ}
 use lib.ListN.{replicate}
-use borrow.Author.Rules.{rules}
 use Rattle.hash.specs.State.{fresh}
 use Rattle.hash.specs.Update.{update}
 use Rattle.hash.specs.declared.Hash.{Hash}
 use Rattle.mac.specs.Hmac.{◌⊕◌, ipad, opad}
 use Rattle.mac.specs.Codes.{started}
-use Rattle.mac.specs.declared.Code.{Code}
 use Rattle.mac.proofs.started.Goals as goal
 
 -- a state that took what was xored from the key's block

@@ -1,11 +1,9 @@
 -- `xored` goes byte by byte. The loop's invariant: so many bytes are xored already. Assumes nothing.
 use Prim.Native.Nat.{◌≤◌, ◌-◌}
 use mathlib.Core.Path.{◌≡◌}
-use borrow.Author.Rules.{rules}
-use lib.ListN.{length, replicate, length-set}
-use lib.Seq.{paste, paste-zero}
+use lib.ListN.{replicate}
+use lib.Seq.{paste}
 use Rattle.mac.specs.Hmac.{◌⊕◌}
-use Rattle.mac.proofs.Blocks.{xored_more, xored_done}
 use Rattle.mac.proofs.xored.Given as goal
 
 abbrev pub invariant-loop-i : goal.invariant-loop-i

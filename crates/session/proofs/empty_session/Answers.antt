@@ -1,5 +1,4 @@
 -- `empty_session` is 32 slots of no note. Assumes nothing.
-use borrow.Author.Rules.{rules}
 use Rattle.session.specs.Sessions.{empty_session}
 use Rattle.session.proofs.empty_session.Goals as goal
 

@@ -1,5 +1,4 @@
 -- `slot_index` is where a note's slot stands. Assumes nothing.
-use borrow.Author.Rules.{rules}
 use mathlib.Core.Path.{sym, ◌∙◌}
 use Rattle.rules.proofs.Rules.{is_note_is}
 use Rattle.session.proofs.Putting.{index_of_note, index_of_no_note}

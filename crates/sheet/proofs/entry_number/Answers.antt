@@ -2,7 +2,6 @@
 use mathlib.Core.Path.{sym}
 use Rattle.truth.proofs.Tests.{refuted, confirmed}
 use Rattle.sheet.proofs.Verdicts.{entry_note, entry_length, entry_loop, entry_good}
-use borrow.Author.Rules.{rules}
 use Rattle.sheet.proofs.entry_number.Goals as goal
 
 pub returns-then-not-note_rule : goal.returns-then-not-note_rule

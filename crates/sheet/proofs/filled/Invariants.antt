@@ -1,12 +1,10 @@
 -- `filled` lists note after note. The invariant: the session of all lines is that of the lines that are left over the one reached.
 -- Assumes nothing.
-use Prim.Native.Nat.{◌≤◌, ◌<◌, ◌-◌}
-use mathlib.Core.Path.{◌≡◌, ◌∙◌}
-use native.Mathlib.Omega.{arith}
+use Prim.Native.Nat.{◌≤◌, ◌-◌}
+use mathlib.Core.Path.{◌≡◌}
 use Rattle.session.specs.Sessions.{empty_session}
 use Rattle.sheet.specs.Judging.{entries_at, with_notes}
-use Rattle.sheet.proofs.Filling.{of_slots, lists_first, lists_one, lists_all, listing_lt}
-use borrow.Author.Rules.{rules}
+use Rattle.sheet.proofs.Filling.{of_slots}
 use Rattle.sheet.proofs.filled.Given as goal
 
 abbrev pub invariant-loop-i : goal.invariant-loop-i

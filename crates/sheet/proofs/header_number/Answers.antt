@@ -2,7 +2,6 @@
 use mathlib.Core.Path.{sym}
 use Rattle.truth.proofs.Tests.{refuted, confirmed}
 use Rattle.sheet.proofs.Verdicts.{header_ill, header_bad, header_good}
-use borrow.Author.Rules.{rules}
 use Rattle.sheet.proofs.header_number.Goals as goal
 
 pub returns-then-not-is_good : goal.returns-then-not-is_good

@@ -1,9 +1,7 @@
 -- `judged` finds the first bad line. The invariant: the verdict is that on the lines that are left, from the place and the note reached.
 -- Assumes nothing.
-use Prim.Native.Nat.{◌+◌, ◌≤◌, ◌-◌}
-use mathlib.Core.Path.{◌≡◌, sym, ◌∙◌}
+use mathlib.Core.Path.{sym, ◌∙◌}
 use native.Mathlib.Omega.{arith}
-use Rattle.sheet.specs.Judging.{judged, judged_notes}
 use Rattle.sheet.proofs.Verdicts.{most_notes, header_decides, none_yet, this_of_many, rest_of_many, text_after_all, end_after_all}
 use borrow.Author.Rules.{rules}
 use Rattle.sheet.proofs.judged.Goals as goal

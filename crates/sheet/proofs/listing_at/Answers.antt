@@ -1,5 +1,4 @@
 -- `listing_at` says what the line at a place puts into a session. Assumes nothing.
-use borrow.Author.Rules.{rules}
 use Rattle.sheet.specs.Filling.{listing}
 use Rattle.sheet.proofs.listing_at.Goals as goal
 

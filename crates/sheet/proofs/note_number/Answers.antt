@@ -1,7 +1,6 @@
 -- `note_number` judges a note line. Assumes nothing.
 use mathlib.Core.Path.{sym, ◌∙◌}
 use Rattle.sheet.proofs.Verdicts.{line_ill, line_well}
-use borrow.Author.Rules.{rules}
 use Rattle.truth.proofs.Tests.{refuted, confirmed}
 use Rattle.sheet.proofs.note_number.Goals as goal
 

@@ -1,5 +1,4 @@
 -- `read` judges the lines and fills the session from them. Assumes nothing.
-use borrow.Author.Rules.{rules}
 use Rattle.sheet.proofs.Filling.{sheet_session}
 use Rattle.sheet.proofs.read.Goals as goal
 

@@ -1,5 +1,4 @@
 -- `start_of` says where the note lines begin. Assumes nothing.
-use borrow.Author.Rules.{rules}
 use borrow.Author.Tests.{eq-eqb, ne_eqb}
 use Rattle.sheet.specs.Filling.{start}
 use Rattle.sheet.proofs.start_of.Goals as goal

@@ -1,5 +1,4 @@
 -- `as_it_stands` answers status and taken as they stand. Assumes nothing.
-use borrow.Author.Rules.{rules}
 use Rattle.slots.proofs.Deliver.{stands}
 use Rattle.slots.proofs.as_it_stands.Goals as goal
 

@@ -1,5 +1,4 @@
 -- `ask_at` asks the slot at a note's place. Assumes nothing.
-use borrow.Author.Rules.{rules}
 use mathlib.Core.Path.{sym, ◌∙◌}
 use Rattle.slots.proofs.Listed.{ask_at_listed, ask_at_unlisted}
 use Rattle.slots.proofs.ask_at.Goals as goal

@@ -1,5 +1,4 @@
 -- `ask_of` answers for a listed slot. Assumes nothing.
-use borrow.Author.Rules.{rules}
 use mathlib.Core.Path.{sym, ◌∙◌}
 use Rattle.slots.proofs.Deliver.{asked, asked_not_in_order}
 use Rattle.slots.proofs.ask_of.Goals as goal

@@ -1,5 +1,4 @@
 -- `bytes_taken` is the bytes taken. Assumes nothing.
-use borrow.Author.Rules.{rules}
 use borrow.Author.Tests.{eq-eqb, ne_eqb}
 use Rattle.slots.specs.Slots.{bytes_taken}
 use Rattle.slots.proofs.bytes_taken.Goals as goal

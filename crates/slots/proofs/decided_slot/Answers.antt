@@ -1,5 +1,4 @@
 -- `decided_slot` decides a note. Assumes nothing.
-use borrow.Author.Rules.{rules}
 use mathlib.Core.Path.{sym, ap, ◌∙◌}
 use Rattle.slots.specs.Delivery.{decided_slot}
 use Rattle.slots.proofs.decided_slot.Goals as goal

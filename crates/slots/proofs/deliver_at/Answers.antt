@@ -1,5 +1,4 @@
 -- `deliver_at` delivers to the slot at a note's place. Assumes nothing.
-use borrow.Author.Rules.{rules}
 use mathlib.Core.Path.{sym, ◌∙◌}
 use Rattle.slots.specs.Delivery.{deliver_at}
 use Rattle.slots.proofs.Listed.{at_listed, at_unlisted}

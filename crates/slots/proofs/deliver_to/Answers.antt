@@ -1,8 +1,6 @@
 -- `deliver_to` delivers to a listed slot. Assumes nothing.
-use borrow.Author.Rules.{rules}
 use mathlib.Core.Path.{sym, ◌∙◌}
 use native.Mathlib.Omega.{arith}
-use borrow.Author.Tests.{not-true, not-false}
 use Rattle.slots.proofs.Slots.{has_room}
 use Rattle.slots.proofs.Deliver.{not_in_order, is_decided_lem, runs_past, is_taken}
 use Rattle.slots.proofs.deliver_to.Goals as goal

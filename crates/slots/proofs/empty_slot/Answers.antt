@@ -1,5 +1,4 @@
 -- `empty_slot` is a slot of no note. Assumes nothing.
-use borrow.Author.Rules.{rules}
 use Rattle.slots.specs.Slots.{empty_slot}
 use Rattle.slots.proofs.empty_slot.Goals as goal
 

@@ -1,5 +1,4 @@
 -- `is_listed` says whether a number is a note whose slot is listed. Assumes nothing.
-use borrow.Author.Rules.{rules}
 use mathlib.Core.Path.{sym, ◌∙◌}
 use Rattle.slots.specs.Delivery.{is_listed}
 use Rattle.slots.proofs.is_listed.Goals as goal

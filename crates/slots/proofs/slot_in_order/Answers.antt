@@ -1,5 +1,4 @@
 -- `slot_in_order` says whether a listed slot is in order. Assumes nothing.
-use borrow.Author.Rules.{rules}
 use mathlib.Core.Path.{sym, ◌∙◌}
 use Rattle.slots.specs.Slots.{slot_in_order}
 use Rattle.slots.proofs.slot_in_order.Goals as goal

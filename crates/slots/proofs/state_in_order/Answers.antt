@@ -1,5 +1,4 @@
 -- `state_in_order` says whether a slot's hash state fits its status. Assumes nothing.
-use borrow.Author.Rules.{rules}
 use mathlib.Core.Path.{sym, ◌∙◌}
 use borrow.Author.Tests.{eq-eqb, ne_eqb}
 use Rattle.slots.specs.Slots.{state_in_order}

@@ -1,5 +1,4 @@
 -- `waiting_slot` is a slot of which bare_refusal has come yet. Assumes nothing.
-use borrow.Author.Rules.{rules}
 use Rattle.slots.specs.Slots.{waiting_slot}
 use Rattle.slots.proofs.waiting_slot.Goals as goal
 

@@ -1,5 +1,4 @@
 -- `with_piece` takes a piece. Assumes nothing.
-use borrow.Author.Rules.{rules}
 use mathlib.Core.Path.{sym, ◌∙◌}
 use Rattle.slots.proofs.Deliver.{waits_on, decides}
 use Rattle.slots.proofs.with_piece.Goals as goal

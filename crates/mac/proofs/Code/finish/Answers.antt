@@ -1,6 +1,5 @@
 -- `finish` refuses a state that is not in order, and else gives the inner's digest to the outer. Assumes nothing.
 use mathlib.Core.Path.{sym, ap, ◌∙◌}
-use borrow.Author.Rules.{rules}
 use Rattle.truth.proofs.Tests.{refuted, confirmed}
 use Rattle.hash.specs.Update.{update}
 use Rattle.hash.specs.Digests.{finish}

@@ -1,7 +1,6 @@
 -- `in_order` is the four tests. Assumes nothing.
 use mathlib.Core.Path.{ap₂}
 use mathlib.Core.Bool.{Bool, ◌&&◌}
-use borrow.Author.Rules.{rules}
 use lib.Dec.{leb, eqb}
 use Rattle.mac.specs.Codes.{in_order}
 use Rattle.mac.proofs.Code.in_order.Goals as goal

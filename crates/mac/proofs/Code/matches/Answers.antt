@@ -1,6 +1,5 @@
 -- `matches` holds what `finish` answers against what is expected. Assumes nothing.
 use mathlib.Core.Path.{ap, ◌∙◌}
-use borrow.Author.Rules.{rules}
 use Rattle.hash.specs.Digests.{compared}
 use Rattle.hash.specs.declared.Digest.{Digest}
 use Rattle.mac.specs.Codes.{compare_state}

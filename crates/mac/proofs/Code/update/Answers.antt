@@ -1,6 +1,5 @@
 -- `update` refuses a state that is not in order, and else gives the piece to the inner. Assumes nothing.
 use mathlib.Core.Path.{sym, ap, ◌∙◌}
-use borrow.Author.Rules.{rules}
 use Rattle.truth.proofs.Tests.{refuted, confirmed}
 use Rattle.hash.specs.declared.Updated.{Updated}
 use Rattle.mac.proofs.States.{update_spoilt, update_inner}

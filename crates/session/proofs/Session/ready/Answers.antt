@@ -1,5 +1,4 @@
 -- `ready` is the light. Assumes nothing.
-use borrow.Author.Rules.{rules}
 use Rattle.session.specs.Light.{ready}
 use Rattle.session.proofs.Session.ready.Goals as goal
 
