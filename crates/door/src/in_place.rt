@@ -1,7 +1,7 @@
 // The calls that work in place, on a state or a session that the host lends.
 ghost use Rattle.std.specs.Prelude.{◌≡◌, length};
 ghost use Rattle.hash.specs.Update.{update as updated};
-ghost use Rattle.mac.specs.Codes.{update as codeUpdated};
+ghost use Rattle.mac.specs.Codes.{update as code_updated};
 ghost use Rattle.session.specs.Light.{ready as lit};
 ghost use Rattle.session.specs.Operations.{deliver as delivered, ask as asked};
 ghost use Rattle.sheet.specs.Judging.{sheet_of};
@@ -27,8 +27,8 @@ pub extern "C" fn vs_update_in_place(state: &mut Hash, piece: &[u8]) -> u8
 // Takes a piece into a lent code state, and answers the number.
 #[unsafe(no_mangle)]
 pub extern "C" fn vs_code_update_in_place(state: &mut Code, piece: &[u8]) -> u8
-    ensures { (result ≡ (codeUpdated state.old piece.now).number)
-        × (state.new ≡ (codeUpdated state.old piece.now).state) }
+    ensures { (result ≡ (code_updated state.old piece.now).number)
+        × (state.new ≡ (code_updated state.old piece.now).state) }
 {
     mac_in_place::update(state, piece)
 }

@@ -1,6 +1,7 @@
-// What a C host links (host/veenstipper.h). Nothing here decides anything: each function passes on, and its contract is that of what it
-// passes on to.
+// What a C host calls (host/veenstipper.h). Nothing here decides anything: each function passes on, and its contract is that of what it
+// passes on to. A library exports nothing to C: the crate `door_c` is the static library, and exports each of these under its own name.
 #![tactic(auto)]
+
 mod codes;
 mod in_place;
 

@@ -3,7 +3,7 @@ use mathlib.Core.Path.{refl}
 use Rattle.hash.specs.Sm3.{sm3}
 use Rattle.word.specs.BigEndian.{big_endian, number_from, number_of}
 use Rattle.word.specs.Rotation.{◌⊞◌, ◌<<<◌}
-use Rattle.standard.specs.Standard.{IV, T, FF, GG, P0, P1, split, next_word, extended, expansion, W', round, round_on, rounds, xor_words, CF, iterated, folded, hash_value}
+use Rattle.standard.specs.Standard.{T, FF, GG, P0, P1, split, next_word, extended, expansion, W', round, round_on, rounds, xor_words, CF, iterated, folded, hash_value}
 use Rattle.padding.specs.Padding.{zeros, padding, padded}
 use Rattle.printed.specs.Printed.{bytes_of}
 use Rattle.mac.specs.Hmac.{◌⊕◌, ipad, opad, short_key, key_block, hmac}

@@ -3,7 +3,7 @@ use Prim.Native.Nat.{ℕ, ◌+◌, ◌-◌, ◌≤◌}
 use mathlib.Core.Path.{◌≡◌, refl, sym, ap, ◌∙◌, subst}
 use mathlib.Core.Bool.{true, false}
 use mathlib.Core.Logic.{inl}
-use mathlib.Core.List.{List, [], ◌∷◌, ◌++◌, append-nil}
+use mathlib.Core.List.{List, [], ◌++◌, append-nil}
 use native.Mathlib.Omega.{arith}
 use lib.ListN.{length, get_or, drop}
 use Rattle.hex_digits.specs.Digits.{within, digit_of}
@@ -17,7 +17,6 @@ use Rattle.mac.specs.Hmac.{hmac}
 use Rattle.sheet.specs.Judging.{header_number, verdict_at, judged, sheet_of}
 use Rattle.keyed.specs.Keyed.{begins_line}
 use Rattle.sheet_promises.specs.Grammar.{IsDigest}
-use Rattle.sheet_promises.specs.Promises.{Lists}
 use Rattle.sheet_promises.proofs.Digests.{digest_stands}
 use Rattle.sheet_promises.proofs.Proved.{proved as sheets}
 use Rattle.rejected.specs.Example.{text, notes}

@@ -1,14 +1,13 @@
 -- The crate's promises, proved. Assumes nothing.
-use Prim.Native.Nat.{ℕ, ◌+◌, ◌≤◌}
+use Prim.Native.Nat.{ℕ, ◌≤◌}
 use mathlib.Core.Path.{◌≡◌, refl, sym, ap, ◌∙◌}
 use mathlib.Core.List.{List, [], ◌∷◌, append-nil}
 use native.Mathlib.Omega.{arith}
-use lib.ListN.{length, length-append}
+use lib.ListN.{length}
 use Rattle.refusal.specs.Table.{accepted}
 use Rattle.units.specs.Units.{longest}
 use Rattle.hash.specs.Cutting.{joined}
 use Rattle.hash.specs.declared.Digest.{Digest}
-use Rattle.hash.proofs.Proved.{proved as hash}
 use Rattle.mac.specs.Hmac.{hmac}
 use Rattle.mac.specs.Cutting.{after_all_of}
 use Rattle.mac.specs.Promises.{AnyCuttingOf, CodesOf}

@@ -1,17 +1,23 @@
 // A rank's files, opened by their names behind the name of the folder.
+use std::fs::File;
+use std::rt::Files;
 
-// The file of a name in a folder, opened for reading, or -1. A path that does not fit is empty, and no file has it.
-fn open(folder: &[u8], name: &[u8]) -> i32 {
+// The file of a name in a folder, opened for reading, where it can be. A path that does not fit is empty, and no file has it; nor has a
+// file a path that is not UTF-8, since std opens none by such a path.
+fn open<R: Files>(rt: &R, folder: &[u8], name: &[u8]) -> Option<R::File> {
     let path = paths::path_of(folder, name);
     let bytes = path.bytes;
     let n = path.length;
-    os::open_read(&bytes[..n])
+    match str::from_utf8(&bytes[..n]) {
+        Ok(text) => File::open(rt, text).ok(),
+        Err(_) => None,
+    }
 }
 
-pub fn open_sheet(folder: &[u8]) -> i32 {
-    open(folder, &paths::sheet_name())
+pub fn open_sheet<R: Files>(rt: &R, folder: &[u8]) -> Option<R::File> {
+    open(rt, folder, &paths::sheet_name())
 }
 
-pub fn open_note(folder: &[u8], note: u64) -> i32 {
-    open(folder, &paths::note_name(note))
+pub fn open_note<R: Files>(rt: &R, folder: &[u8], note: u64) -> Option<R::File> {
+    open(rt, folder, &paths::note_name(note))
 }

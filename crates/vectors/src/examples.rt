@@ -1,27 +1,27 @@
 // The small examples of document 01 that are run: the digest of "abc", and a state that has taken 2^61 - 1 bytes.
 use hash::Hash;
-use libc::STDOUT_FILENO;
+use std::io;
 use units::LONGEST;
 
-fn print(text: &[u8]) {
-    io::write_all(STDOUT_FILENO, text);
+fn print(rt: &impl Print, text: &[u8]) -> io::Result<()> {
+    rt.write_all(text)
 }
 
 // The bytes of a digest, by words parted by blanks, as 01 prints them.
-fn print_digest(bytes: &[u8]) {
+fn print_digest(rt: &impl Print, bytes: &[u8]) -> io::Result<()> {
     let mut i = 0;
     while i < bytes.len() {
         if i % 4 == 0 {
-            print(b" ");
+            print(rt, b" ")?;
         }
-        print_byte(bytes[i]);
+        print_byte(rt, bytes[i])?;
         i += 1;
     }
-    print(b"\n");
+    print(rt, b"\n")
 }
 
-fn print_byte(b: u8) {
-    io::print_hex(STDOUT_FILENO, b as u64, 2);
+fn print_byte(rt: &impl Print, b: u8) -> io::Result<()> {
+    print!(rt; "{b:02x}")
 }
 
 // A state in order that has taken as many bytes as a message may have.
@@ -33,22 +33,20 @@ fn full() -> Hash {
     }
 }
 
-fn print_update(name: &[u8], piece: &[u8]) {
+fn print_update(rt: &impl Print, name: &[u8], piece: &[u8]) -> io::Result<()> {
     let u = full().update(piece);
-    print(name);
-    print(b": number ");
-    io::print_decimal(STDOUT_FILENO, u.number as u64);
-    print(b", total afterwards ");
+    print(rt, name)?;
+    print!(rt; ": number {}", u.number)?;
     let after = u.state;
-    io::print_decimal(STDOUT_FILENO, after.total);
-    print(b"\n");
+    print!(rt; ", total afterwards {}", after.total)?;
+    print(rt, b"\n")
 }
 
-pub fn run() {
+pub fn run(rt: &impl Print) -> io::Result<()> {
     let d = hash::digest_of(b"abc");
     let bytes = d.bytes;
-    print(b"abc:");
-    print_digest(&bytes);
-    print_update(b"total 2^61 - 1, an empty piece", b"");
-    print_update(b"total 2^61 - 1, one byte", b"x");
+    print(rt, b"abc:")?;
+    print_digest(rt, &bytes)?;
+    print_update(rt, b"total 2^61 - 1, an empty piece", b"")?;
+    print_update(rt, b"total 2^61 - 1, one byte", b"x")
 }

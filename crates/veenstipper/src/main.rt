@@ -1,5 +1,8 @@
 // The program: the rank of the folder that it is run in.
 #![tactic(auto)]
-fn main() {
-    loader::run(b"");
+
+use std::io;
+
+fn main(rt: HostRuntime) -> io::Result<()> {
+    loader::run(&rt, b"")
 }

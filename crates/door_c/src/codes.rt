@@ -1,0 +1,48 @@
+// The calls of the code: HMAC over SM3.
+ghost use Rattle.std.specs.Prelude.{◌≡◌};
+ghost use Rattle.mac.specs.Codes.{start, update, finish, code_of, compare_state, compare_message};
+
+use hash::{Compared, Digest};
+use mac::{Code, CodeUpdated};
+
+#[unsafe(no_mangle)]
+pub extern "C" fn vs_code_start(key: &[u8]) -> CodeUpdated
+    ensures { result ≡ start key.now }
+{
+    door::vs_code_start(key)
+}
+
+#[unsafe(no_mangle)]
+pub extern "C" fn vs_code_update(state: Code, piece: &[u8]) -> CodeUpdated
+    ensures { result ≡ update state piece.now }
+{
+    door::vs_code_update(state, piece)
+}
+
+#[unsafe(no_mangle)]
+pub extern "C" fn vs_code_finish(state: Code) -> Digest
+    ensures { result ≡ finish state }
+{
+    door::vs_code_finish(state)
+}
+
+#[unsafe(no_mangle)]
+pub extern "C" fn vs_code_of(key: &[u8], message: &[u8]) -> Digest
+    ensures { result ≡ code_of key.now message.now }
+{
+    door::vs_code_of(key, message)
+}
+
+#[unsafe(no_mangle)]
+pub extern "C" fn vs_compare_code(state: Code, expected: &[u8]) -> Compared
+    ensures { result ≡ compare_state state expected.now }
+{
+    door::vs_compare_code(state, expected)
+}
+
+#[unsafe(no_mangle)]
+pub extern "C" fn vs_compare_code_of(key: &[u8], message: &[u8], expected: &[u8]) -> Compared
+    ensures { result ≡ compare_message key.now message.now expected.now }
+{
+    door::vs_compare_code_of(key, message, expected)
+}
