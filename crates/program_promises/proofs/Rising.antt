@@ -37,6 +37,7 @@ module _ (s : Session) where
   Quiet last es = (note : ℕ) → last < note → note ≤ 32 → ((e : Entry) → Among e es → e.note ≡ note → ⊥) → line note ≡ []
 
 later : (last : ℕ) (es : List Entry) (e : Entry) → AllObey last es → Among e es → last < e.note
+later last [] e _ among = elim among [ ]
 later last (d ∷ es) e (entry o rest) first = ((note_rule_is last e.note).0 o.note_rule_lem).2
 later last (d ∷ es) e (entry o rest) (further among) =
     let here = ((note_rule_is last d.note).0 o.note_rule_lem).2 in
@@ -45,6 +46,7 @@ later last (d ∷ es) e (entry o rest) (further among) =
 
 -- an entry is among some
 some : (e : Entry) (es : List Entry) → Among e es → 1 ≤ length es
+some e [] among = elim among [ ]
 some e (d ∷ es) first = omega arith
 some e (d ∷ es) (further among) = omega arith
 
