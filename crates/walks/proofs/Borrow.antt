@@ -1,6 +1,7 @@
 -- Opening and closing the borrow of a struct of plain data, and taking a function's parameters and locals in and out of the context.
 --     Data             a declared struct of plain data: its type, and the laws that its generated modules have
 --     opened, closed   a `&mut` is opened, which gives what lies in memory, and closed at another value of the struct
+--     looked, shut     a `&` is looked into, which gives a share of what lies in memory, and shut again. The reference stays
 --     out, into        what lies in memory is the struct's cell, at its own MIR type, with its machine value written out; and back
 --     known            what lies in memory stands for a value of the type
 --     made, made-uint  what plain data owns is had for nothing, and what a number of a width owns
@@ -19,18 +20,20 @@ use base.Logic.{ent, sep, id⊢, via, mono_l, mono_r}
 use base.Fml.{Lft, Share, Fml, fat, froom, fdies, fsep, flft, fobs, fauth, fobor}
 use prog.Wp.{Env}
 use types.Logic.{Logic}
-use types.Kit.{Goal, Soaks, frees, Seq, Step, step, Item, ‵, mean, ⋆, nth, del, pull, push, ◌$◌, move, use1, drop, fsplit, fsplit3, fjoin, fjoin3, fpick, fpack, feq_i}
+use types.Kit.{Goal, Soaks, frees, Seq, Step, step, Item, ‵, mean, ⋆, nth, del, pull, push, ◌$◌, move, use1, drop, fsplit, fsplit3, fjoin, fjoin3, fpick, fpack, feq_i, split, ◌⊛◌}
 use types.SemTy.{Body}
 use types.Mut.{open_ref, close_ref}
 use types.Run.{free1}
-use denote.RattleType.{RattleType}
+use denote.RattleType.{RattleType, RowLaws}
 use denote.Laws.{Is, shows}
 use denote.Plain.{UInt, uint_Makes}
-use denote.Memory.{mem, cell_at, part_of, part_at, lone}
-use denote.Ref.{MutBor, MutRef, at_last}
+use denote.Memory.{mem, cell_at, part_of, part_at, shared_of, lone}
+use denote.Ref.{Bor, MutBor, MutRef, ShrRef, shr_copy, at_last}
+use denote.Opens.{Shut, shr_open, shr_Shut}
 use denote.Steps.{facts, owned}
-use denote.Struct.Declared.{Declared, fields, row}
-use denote.Struct.Struct.{Plains}
+use denote.Struct.Declared.{Declared, fields, row, shape}
+use denote.Struct.Recorded.{Recorded-row_laws}
+use denote.Struct.Struct.{Struct, Struct-row_laws, Plains}
 use denote.Struct.Steps.{spelt}
 use denote.Struct.Laws as LL
 
@@ -67,6 +70,15 @@ module _ (D : Data) where
     abbrev pub Opened : Lft → Share → MutBor D.type.D → Item 𝓤
     Opened κ q x = ‵ (fsep (fobor κ q (Body (mem row_of) x.ref_ptr.0 x.ref_ptr.1 x.ghost_name)) (fsep (fobs x.ghost_name (row_of.coded.code x.now)) (fauth x.ghost_name (row_of.coded.code x.now))))
 
+  module _ {M : Type 1} {𝓤 : Ura M} (𝓛 : Logic 𝓤) where
+    -- and of a `&`: the way back of its token, for the share that was had
+    abbrev pub Looked : Lft → Share → Share → Bor D.type.D → Item 𝓤
+    Looked κ q q' x = Shut 𝓛 κ q (part_at row_of q' x.now x.ref_ptr.0 x.ref_ptr.1)
+
+  -- a `&` to it can be had twice
+  pub row_laws_of : RowLaws row_of
+  row_laws_of = Recorded-row_laws (Struct (shape D.type)) D.type.D D.type.to D.type.to_one (Struct-row_laws (shape D.type) (LL.copy_row_laws D.type.parts D.copies))
+
 module _ {M : Type 1} {𝓤 : Ura M} {𝓛 : Logic 𝓤} {K : Type 0} {Γ : List (Item 𝓤)} where
   open 𝓛 use {H}
 
@@ -102,6 +114,18 @@ module _ {M : Type 1} {𝓤 : Ura M} {𝓛 : Logic 𝓤} {K : Type 0} {Γ : List
         → Step K 𝓛 (‵ ((MutRef ℓ κ (row_of D)).own_val (at_last x h') (vptr x.ref_ptr.0 x.ref_ptr.1 ∷ [])) ∷ ‵ (flft κ q) ∷ Γ) G (‵ (part_at (row_of D) full_share h' x.ref_ptr.0 x.ref_ptr.1) ∷ Opened D 𝓤 κ q x ∷ Γ) G
     closed t z D ℓ x h' = step (λ s. move t (1 ∷ []) $ fsplit3 t $ move t (3 ∷ 0 ∷ []) $ close_ref t z (mem (row_of D)) h' $
         feq_i t (List Val) (vptr x.ref_ptr.0 x.ref_ptr.1 ∷ []) (vptr x.ref_ptr.0 x.ref_ptr.1 ∷ []) refl $ fjoin3 t $ s)
+
+    pub looked : K → Soaks G → (D : Data) (ℓ : Lifetime) {κ : Lft} {q : Share} (x : Bor D.type.D) {vs : List Val}
+        → ((q' : Share) → Seq K 𝓛 (‵ (part_at (row_of D) q' x.now x.ref_ptr.0 x.ref_ptr.1) ∷ Looked D 𝓛 κ q q' x ∷ ‵ ((ShrRef ℓ κ (row_of D)).own_val x vs) ∷ Γ) G)
+        → Seq K 𝓛 (‵ ((ShrRef ℓ κ (row_of D)).own_val x vs) ∷ ‵ (flft κ q) ∷ Γ) G
+    looked t z D ℓ {κ} x {vs} k =
+        use1 𝓛 (‵ ((ShrRef ℓ κ (row_of D)).own_val x vs) ⊛ ‵ ((ShrRef ℓ κ (row_of D)).own_val x vs)) ((shr_copy 𝓛 ℓ κ (row_of D) (row_laws_of D)).twice x vs) $ split t $
+        fsplit t $ drop t $ move t (0 ∷ 2 ∷ []) $
+        shr_open t z (λ q'. part_at (row_of D) q' x.now x.ref_ptr.0 x.ref_ptr.1) (shared_of (row_of D) x.now x.ref_ptr.0 x.ref_ptr.1) ((LL.copied D.type D.copies 𝓛).opens x.now x.ref_ptr.0 x.ref_ptr.1).0 (λ q'. move t (1 ∷ 0 ∷ []) $ k q')
+
+    pub shut : K → Soaks G → (D : Data) {κ : Lft} {q : Share} (q' : Share) (x : Bor D.type.D)
+        → Step K 𝓛 (‵ (flft κ q) ∷ Γ) G (‵ (part_at (row_of D) q' x.now x.ref_ptr.0 x.ref_ptr.1) ∷ Looked D 𝓛 κ q q' x ∷ Γ) G
+    shut t z D q' x = step (λ s. move t (1 ∷ 0 ∷ []) $ shr_Shut t z $ s)
 
 module _ {M : Type 1} {𝓤 : Ura M} {𝓛 : Logic 𝓤} {K : Type 0} {Γ : List (Item 𝓤)} where
   open 𝓛 use {H}

@@ -7,3 +7,4 @@ pub mod Lend
 pub mod Slices
 pub mod Loops
 pub mod Ends
+pub mod Taking

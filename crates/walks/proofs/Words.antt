@@ -10,6 +10,7 @@ pub use prog.Memory.{Memory}
 pub use prog.Routine.{Routine}
 pub use prog.Wp.{Heap, Calls, Loops, Tables, WpFn}
 pub use ghost.Atoms.{Atoms}
+pub use types.Logic.{Logic}
 pub use sound.WpLaws.{FmC, fm_of}
 pub use contract.Lifetimes.{Lfts, Shares}
 pub use contract.Monad.{Fun, fact_i}
