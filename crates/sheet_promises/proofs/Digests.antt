@@ -1,9 +1,9 @@
 -- What is read as a digest is one, and each digest is read. Assumes nothing.
 use Prim.Native.Nat.{ℕ, zero, suc, ◌+◌, ◌*◌, ◌<◌}
-use mathlib.Core.Path.{◌≡◌, refl, sym, ap, ◌∙◌}
+use mathlib.Core.Path.{◌≡◌, refl, sym, ap, ◌∙◌, subst}
 use mathlib.Core.List.{List, [], ◌∷◌, ◌++◌, append_assoc, append-nil}
 use mathlib.Core.Bool.{true, true≢false}
-use mathlib.Core.Logic.{⊎_elim}
+use mathlib.Core.Logic.{◌↔◌, ⊎_elim}
 use native.Mathlib.Nat.{add-zero}
 use native.Mathlib.Numerals.{add-one}
 use native.Mathlib.Omega.{arith}
@@ -17,6 +17,7 @@ use Rattle.lines.specs.declared.DigestField.{DigestField}
 use Rattle.lines.proofs.Digests.{digit_before, pair_none, pair_one, pair_both}
 use Rattle.truth.proofs.Tests.{below_or_not}
 use Rattle.sheet_promises.specs.Grammar.{Pairs, no_pair, pair, IsDigest}
+use Rattle.sheet_promises.specs.Promises.{TwoDigits}
 use Rattle.sheet_promises.proofs.Standing.{Part, behind, stands_byte}
 
 -- two digits a byte
@@ -108,3 +109,35 @@ digest_stands text at h =
       is_digest = (rw p.read p.pairs, omega (arith, two_a_byte p.piece p.bytes p.pairs, p.size));
       part = p.part;
     }
+
+-- a digest's bytes, each of two digits
+two_digits_at : (text bytes : List ℕ) → Pairs text bytes → (i : ℕ) → i < length bytes → TwoDigits text bytes i
+two_digits_at text bytes no_pair i below = absurd (omega arith)
+two_digits_at text bytes (pair high low dh dl more) zero below = (high, low, dh, dl, refl)
+two_digits_at text bytes (pair {text = t} {bytes = bs} high low dh dl more) (suc i) below =
+    let second : 2 * suc i + 1 ≡ suc (suc (2 * i + 1)) = omega arith in
+    let first : 2 * suc i ≡ suc (suc (2 * i)) = omega arith in
+    rw (second, first) (two_digits_at t bs more i (omega arith))
+
+pairs_of : (text bytes : List ℕ) → length text ≡ 2 * length bytes → ((i : ℕ) → i < length bytes → TwoDigits text bytes i) → Pairs text bytes
+pairs_of [] [] size each = no_pair
+pairs_of (a ∷ text) [] size each = absurd (omega arith)
+pairs_of [] (byte ∷ bytes) size each = absurd (omega arith)
+pairs_of (a ∷ []) (byte ∷ bytes) size each = absurd (omega arith)
+pairs_of (a ∷ b ∷ text) (byte ∷ bytes) size each =
+    let (high, low, dh, dl, e) = each 0 (omega arith) in
+    let more = pairs_of text bytes (omega arith) (λ i below.
+    let second : 2 * suc i + 1 ≡ suc (suc (2 * i + 1)) = omega arith in
+    let first : 2 * suc i ≡ suc (suc (2 * i)) = omega arith in
+    rw (second, first) at (each (suc i) (omega arith))) in
+    subst (λ (x : ℕ). Pairs (a ∷ b ∷ text) (x ∷ bytes)) (sym e) (pair high low dh dl more)
+
+pub digest_is : (text bytes : List ℕ)
+    → IsDigest text bytes ↔ ((length text ≡ 64) × (length bytes ≡ 32) × ((i : ℕ) → i < 32 → TwoDigits text bytes i))
+unfolding IsDigest
+digest_is text bytes = (
+  λ d.
+      let size : length bytes ≡ 32 = omega (arith, two_a_byte text bytes d.0, d.1) in
+      (d.1, size, λ i below. two_digits_at text bytes d.0 i (rw size below)),
+  λ (long, size, each). (pairs_of text bytes (omega arith) (λ i below. each i (rw size at below)), long),
+)

@@ -18,6 +18,7 @@ use Rattle.sheet_promises.proofs.Lines.{header_read, line_read}
 use Rattle.sheet_promises.proofs.Following.{text_after_lem}
 use Rattle.sheet_promises.proofs.Listing.{lists_entries, lists_none, one_session}
 use Rattle.sheet_promises.proofs.Sizes.{sheet_size_lem}
+use Rattle.sheet_promises.proofs.Digests.{digest_is}
 
 -- what is judged is the answer's verdict
 verdict_is : (text : List ℕ) → (sheet_of text).verdict ≡ judged text 0
@@ -83,4 +84,6 @@ proved =
       reads_line = line_read;
       entries = λ text es s. sym (sheet_entries text 0 es s);
       one_reading = λ text es others s t. sym (sheet_entries text 0 es s) ∙ sheet_entries text 0 others t;
+      is_digest = digest_is;
+      parts = λ text es s. (s.is_header, s.are_lines, s.whole);
     }

@@ -1,17 +1,18 @@
 -- What the reader promises of every text: document 01, "The rank sheet".
-use Rattle.std.specs.Prelude.{ℕ, ◌+◌, ◌≤◌, ◌≡◌, ◌↔◌, List, [], ◌∷◌, ◌++◌, length, drop, replicate}
+use Rattle.std.specs.Prelude.{ℕ, ◌+◌, ◌*◌, ◌<◌, ◌≤◌, ◌≡◌, ◌↔◌, List, [], ◌∷◌, ◌++◌, length, get_or, drop, replicate}
 use Rattle.refusal.specs.Table.{accepted, form}
 use Rattle.standard.specs.Standard.{IV}
 use Rattle.session.specs.Sessions.{slot_of}
 use Rattle.session.specs.declared.Session.{Session}
 use Rattle.slots.specs.declared.Slot.{Slot}
+use Rattle.hex_digits.specs.Digits.{IsDigit}
 use Rattle.sheet.specs.Judging.{header_at, judged, entries_at, sheet_of}
 use Rattle.sheet.specs.declared.Sheet.{Sheet}
 use Rattle.sheet.specs.declared.Verdict.{Verdict}
 use Rattle.lines.specs.Lines.{note_line}
 use Rattle.lines.specs.declared.Entry.{Entry}
 use Rattle.rules.specs.declared.Record.{Record}
-use Rattle.sheet_promises.specs.Grammar.{IsHeader, IsLine, IsSheet}
+use Rattle.sheet_promises.specs.Grammar.{IsDigest, IsHeader, IsLine, Lines, IsSheet}
 use Rattle.sheet_promises.specs.Faults.{Refused}
 
 -- an entry is one of a sheet's
@@ -42,6 +43,14 @@ pub record Lists (s : Session) (es : List Entry) : Type 0 where
   -- 3/13: "Let the session carry how many notes are listed and how many are open"
   pub notes : s.listed ≡ length es
   pub none_open : s.opened ≡ 0
+
+-- byte i is that of two digits
+abbrev pub TwoDigits : (text bytes : List ℕ) (i : ℕ) → Type 0
+TwoDigits text bytes i =
+    (high : ℕ) × (low : ℕ)
+    × IsDigit (get_or text (2 * i) 0) high
+    × IsDigit (get_or text (2 * i + 1) 0) low
+    × (get_or bytes i 0 ≡ high * 16 + low)
 
 -- accepted exactly when the text is a sheet: of any reader
 abbrev pub AcceptsOf : (read : List ℕ → Sheet) → Type 0
@@ -96,3 +105,10 @@ pub record Promises : Type 0 where
       → es ≡ entries_at (header_at text 0).value text (header_at text 0).stop.at
   -- a sheet's lines are what they are
   pub one_reading : (text : List ℕ) (es others : List Entry) → IsSheet text es → IsSheet text others → es ≡ others
+  -- the words of the grammar, spelled out: "A digest is 64 characters", two digits a byte; a sheet is line 1 and the lines behind it
+  pub is_digest :
+      (text bytes : List ℕ)
+      → IsDigest text bytes ↔ ((length text ≡ 64) × (length bytes ≡ 32) × ((i : ℕ) → i < 32 → TwoDigits text bytes i))
+  pub parts :
+      (text : List ℕ) (es : List Entry) (s : IsSheet text es)
+      → IsHeader s.header (length es) × Lines s.lines es × (text ≡ s.header ++ s.lines)

@@ -9,7 +9,7 @@ use lib.ListN.{length, drop}
 use Rattle.refusal.specs.Table.{accepted, slot_not_in_order, none_listed, short_buffer}
 use Rattle.refusal.specs.declared.Written.{Written}
 use Rattle.session.specs.declared.Session.{Session}
-use Rattle.writing.specs.Texts.{sheet_text}
+use Rattle.writing.specs.Texts.{field_text, digest_text, line_text, header_text, lines_text, sheet_text}
 use Rattle.writing.specs.Writing.{entries_of, unspoilt_to, write_number, sheet_written, with_sheet}
 use Rattle.writing.specs.Promises.{Promises, TableOf, Row, row6, row15, row16, row0, sheet_size}
 use Rattle.writing.proofs.Notes.{unspoilt_is, spoilt_is, none_is, some_is}
@@ -74,4 +74,15 @@ by_table s buffer answer after = (
 )
 
 pub proved : Promises
-proved = record { table = by_table }
+unfolding header_text field_text line_text digest_text lines_text sheet_text
+proved =
+    record {
+      table = by_table;
+      header = λ count. refl;
+      line = λ e. refl;
+      no_digits = refl;
+      digits = λ byte bytes. refl;
+      no_lines = refl;
+      lines = λ e es. refl;
+      sheet = λ es. refl;
+    }
