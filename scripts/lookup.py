@@ -116,13 +116,13 @@ def members(item, rows):
 
 # ---- .rt -----------------------------------------------------------------------------------------------------------------------------
 
-# kind: fn, struct, enum, const or type. owner: the type whose `impl` it stands in, or "". head: a function's signature, its attributes before it.
+# kind: fn, struct, enum, const (a static too) or type. owner: the type whose `impl` it stands in, or "". head: a function's signature, its attributes before it.
 # generics: with their brackets, or "". params: pairs of a name and a type. clauses: pairs of "requires" or "ensures" and what its braces hold, without its
 # name. body: with its braces; of a const its value.
 Coded = namedtuple("Coded", "kind name owner pub line attributes generics params result clauses body")
 
 ITEM = re.compile(
-    r'(?P<attributes>(?:#\[[^\]]*\]\s*)*)(?P<pub>\bpub\s+|\bpub\s*\([^)]*\)\s*)?(?:\bextern\s+"C"\s+)?\b(?P<kind>fn|struct|enum|const|type|impl|mod|use|ghost|extern)\b'
+    r'(?P<attributes>(?:#\[[^\]]*\]\s*)*)(?P<pub>\bpub\s+|\bpub\s*\([^)]*\)\s*)?(?:\bextern\s+"C"\s+)?\b(?P<kind>fn|struct|enum|const|static|type|impl|mod|use|ghost|extern)\b'
 )
 CLOSERS = {"(": ")", "[": "]", "{": "}"}
 
@@ -229,14 +229,16 @@ def coded(text):
                 found.append(Coded(kind, name, generics=generics, params=params, result=result, clauses=clauses, body=body, **here))
                 continue
             named = re.compile(r"\s*(?:<[^>]*>\s*)?(\w*)\s*(?:<[^>]*>)?").match(code, head.end())
-            end = reach(code, named.end(), re.compile(r"[;{]" if kind not in ("const", "type", "use", "ghost") else ";"))
+            end = reach(code, named.end(), re.compile(r"[;{]" if kind not in ("const", "static", "type", "use", "ghost") else ";"))
             if kind in ("impl", "mod") and code[end] == "{":
                 at = past(code, end)
-                scan(end + 1, at - 1, named.group(1))
+                # of a trait's impl, the type that has it
+                trait = re.search(r"\bfor\s+(\w+)", code[named.start() : end])
+                scan(end + 1, at - 1, trait.group(1) if trait else named.group(1))
                 continue
             at = past(code, end) if code[end] == "{" else end + 1
-            if kind in ("struct", "enum", "const", "type"):
-                found.append(Coded(kind, named.group(1), generics="", params=[], result="", clauses=[], body=plain[named.end() : at].strip(), **here))
+            if kind in ("struct", "enum", "const", "static", "type"):
+                found.append(Coded("const" if kind == "static" else kind, named.group(1), generics="", params=[], result="", clauses=[], body=plain[named.end() : at].strip(), **here))
 
     scan(0, len(code), "")
     return found
