@@ -1,17 +1,16 @@
 -- `same` says whether two lists are equal, and so does the difference that is gathered byte by byte. Assumes nothing.
-use mathlib.Core.Path.{◌≡◌, refl, sym, ap}
+use mathlib.Core.Path.{◌≡◌, refl, sym, ap, ◌∙◌}
 use mathlib.Core.List.{List, [], ◌∷◌, ◌++◌}
 use mathlib.Core.Bool.{true, false, ◌&&◌, and_assoc, and-true}
-use Prim.Native.Nat.{ℕ, suc, ◌+◌, ◌<◌, ◌≤◌}
-use native.Mathlib.Numerals.{add-one}
+use Prim.Native.Nat.{ℕ}
 use native.Mathlib.Omega.{arith}
 use borrow.Author.Tests.{eqb-true, eq-eqb}
-use lib.Bits.{bit_or, bit_xor, or_add_and, xor_add_and, and_le_l, and_le_r, xor_self, or_self}
+use lib.Bits.{bit_or, bit_xor, or_add_and, xor_add_and, and_le_l, and_le_r, xor_self, xor_zero_r, or_self}
 use lib.Dec.{eqb}
-use lib.ListN.{length, get_or, drop, drop_of_length-le}
-use lib.Seq.{drop-cons}
+use lib.ListN.{length}
+use Rattle.std.specs.List.{fold, zip}
 use Rattle.truth.proofs.Tests.{agree, first, second, both, never, not_both}
-use Rattle.buffers.specs.Same.{same}
+use Rattle.buffers.specs.Same.{same, all_zero}
 
 -- what is the same is equal
 pub same_equal : (a b : List ℕ) → same a b ≡ true → a ≡ b
@@ -67,15 +66,20 @@ gathered d x y =
     let equal : x ≡ y = eqb-true x y (second (eqb d 0) (eqb x y) h) in
     eq-eqb (bit_or d (bit_xor x y)) 0 (rw (none, equal, xor_self y) (or_self 0)))
 
--- one byte more
-pub one_more : (a b : List ℕ) (d i : ℕ) → i < length a → i < length b
-    → (eqb d 0 && same (drop i a) (drop i b)) ≡ (eqb (bit_or d (bit_xor (get_or a i 0) (get_or b i 0))) 0 && same (drop (i + 1) a) (drop (i + 1) b))
+-- the differences of all the bytes of two lists that are as long, gathered one after the other
+pub gathered_all : (a b : List ℕ) (d : ℕ) → length a ≡ length b
+    → eqb (fold (λ (found : ℕ) (p : ℕ × ℕ). bit_or found (bit_xor p.0 p.1)) d (zip a b)) 0 ≡ (eqb d 0 && same a b)
 unfolding same
-one_more a b d i ha hb =
-    rw (add-one, drop-cons a i 0 ha, drop-cons b i 0 hb, gathered)
-    (sym (and_assoc (eqb d 0) (eqb (get_or a i 0) (get_or b i 0)) (same (drop (suc i) a) (drop (suc i) b))))
+gathered_all [] [] d h = sym (and-true _)
+gathered_all [] (y ∷ ys) d h = absurd (omega arith)
+gathered_all (x ∷ xs) [] d h = absurd (omega arith)
+gathered_all (x ∷ xs) (y ∷ ys) d h =
+    gathered_all xs ys (bit_or d (bit_xor x y)) (omega arith) ∙ rw (gathered d x y) (and_assoc (eqb d 0) (eqb x y) (same xs ys))
 
--- after the last byte
-pub all_done : (a b : List ℕ) (d i : ℕ) → length a ≤ i → length b ≤ i → (eqb d 0 && same (drop i a) (drop i b)) ≡ eqb d 0
+-- the bits of all the bytes, gathered so: they are held against as many zeros
+pub bits_all : (s : List ℕ) (d : ℕ) → eqb (fold bit_or d s) 0 ≡ (eqb d 0 && all_zero s)
 unfolding same
-all_done a b d i ha hb = rw (drop_of_length-le a ha, drop_of_length-le b hb) (and-true _)
+bits_all [] d = sym (and-true _)
+bits_all (x ∷ xs) d =
+    bits_all xs (bit_or d x)
+    ∙ rw (ap (bit_or d) (sym (xor_zero_r x)), gathered d x 0) (and_assoc (eqb d 0) (eqb x 0) (all_zero xs))

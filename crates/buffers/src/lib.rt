@@ -1,8 +1,7 @@
 // Steps on lent bytes: compared, copied, cleared.
 #![tactic(auto)]
 
-ghost use Rattle.std.specs.Prelude.{◌≡◌, ◌+◌, ◌-◌, ◌≤◌, length, replicate};
-ghost use Rattle.std.proofs.Math.Seq.{paste};
+ghost use Rattle.std.specs.Prelude.{◌≡◌, ℕ, ◌-◌, replicate, fold, zip, bit_or, bit_xor};
 ghost use Rattle.buffers.specs.Same.{same, all_zero};
 ghost use Rattle.buffers.specs.Copy.{copied};
 
@@ -10,29 +9,21 @@ ghost use Rattle.buffers.specs.Copy.{copied};
 pub fn same(a: &[u8], b: &[u8]) -> bool
     ensures { result ≡ same a.now b.now }
 {
-    if a.len() != b.len() {
-        return false;
-    }
-    let mut difference: u8 = 0;
-    let mut i = 0;
-    while i < a.len() {
-        difference = difference | (a[i] ^ b[i]);
-        i += 1;
-    }
-    difference == 0
+    a.len() == b.len() && differences(a, b) == 0
+}
+
+// The bits in which two lots of bytes differ, those of all the bytes gathered in one.
+fn differences(a: &[u8], b: &[u8]) -> u8
+    ensures { result ≡ fold (λ (found : ℕ) (pair : ℕ × ℕ). bit_or found (bit_xor pair.0 pair.1)) 0 (zip a.now b.now) }
+{
+    a.iter().zip(b).fold(0, |found, (x, y)| found | (x ^ y))
 }
 
 // Whether every byte is zero. All bits are gathered first: that is fewer instructions than a test for each byte.
 pub fn all_zero(s: &[u8]) -> bool
     ensures { result ≡ all_zero s.now }
 {
-    let mut found: u8 = 0;
-    let mut i = 0;
-    while i < s.len() {
-        found = found | s[i];
-        i += 1;
-    }
-    found == 0
+    s.iter().fold(0, |found, byte| found | byte) == 0
 }
 
 // Copies all of src to dst, from index at on; nothing where it does not fit. What room is left is compared with at: their sum could pass
@@ -40,23 +31,8 @@ pub fn all_zero(s: &[u8]) -> bool
 pub fn copy(dst: &mut [u8], at: usize, src: &[u8])
     ensures { dst.new ≡ copied dst.old at src.now }
 {
-    if dst.len() < src.len() {
-        return;
-    }
-    if dst.len() - src.len() < at {
-        return;
-    }
-    one_by_one(dst, at, src);
-}
-
-fn one_by_one(dst: &mut [u8], at: usize, src: &[u8])
-    requires { at + length src.now ≤ length dst.old }
-    ensures { dst.new ≡ paste dst.old at src.now (length src.now) }
-{
-    let mut i = 0;
-    while i < src.len() {
-        dst[at + i] = src[i];
-        i += 1;
+    if src.len() <= dst.len() && at <= dst.len() - src.len() {
+        dst[at..at + src.len()].copy_from_slice(src);
     }
 }
 
@@ -64,12 +40,7 @@ fn one_by_one(dst: &mut [u8], at: usize, src: &[u8])
 pub fn clear(dst: &mut [u8], from: usize, to: usize)
     ensures { dst.new ≡ copied dst.old from (replicate (to - from) 0) }
 {
-    if dst.len() < to {
-        return;
-    }
-    let mut i = from;
-    while i < to {
-        dst[i] = 0;
-        i += 1;
+    if from < to && to <= dst.len() {
+        dst[from..to].fill(0);
     }
 }

@@ -100,8 +100,8 @@ module _ (n : ℕ) (fits : n < 2 ^ 64) (f : Figures) (e : f ≡ figures_of n) wh
   unfolding figures_of
   so_many = rw e (omega (arith, at_most_twenty))
 
-  pub last_figures : take (20 - f.from) (drop f.from f.bytes) ≡ decimal n
+  pub last_figures : take (length f.bytes - f.from) (drop f.from f.bytes) ≡ decimal n
   unfolding figures_of
   last_figures =
       let zeros = 20 - length (decimal n) in
-      rw (so_many, e, drop_at (replicate zeros 0) (decimal n) zeros (length-replicate {A = ℕ} zeros 0)) (take-length (decimal n))
+      rw (long_twenty, so_many, e, drop_at (replicate zeros 0) (decimal n) zeros (length-replicate {A = ℕ} zeros 0)) (take-length (decimal n))

@@ -2,13 +2,15 @@
 use Prim.Native.Nat.{ℕ, ◌+◌, ◌*◌, ◌-◌, ◌≤◌}
 use mathlib.Core.Path.{◌≡◌, refl, sym, ap, ◌∙◌}
 use mathlib.Core.List.{List, [], ◌∷◌, ◌++◌, append_assoc, append-nil}
-use mathlib.Core.Bool.{Bool, true, false, cond, true≢false}
+use mathlib.Core.Bool.{Bool, true, false, cond}
 use native.Mathlib.Nat.{add-zero}
 use native.Mathlib.Omega.{arith}
 use borrow.Author.Tests.{le-leb}
 use lib.ListN.{length, drop, length-append}
 use lib.Seq.{drop-drop, drop-append_seam}
-use Rattle.decimal.specs.Reading.{good_numeral, no_numeral, is_figure, with_figure, goes_on, going_on, first_numeral, numeral_at}
+use Rattle.std.specs.Prelude.{Some, None}
+use Rattle.std.proofs.lemmas.Option.{none-some, same_Some, cond_some}
+use Rattle.decimal.specs.Reading.{good_numeral, is_figure, with_figure, goes_on, going_on, first_numeral, numeral_at}
 use Rattle.decimal.proofs.Steps.{figure_from, figure_to, is_figure_lem, goes_figure, goes_positive, goes_fits, goes_by, goes_not}
 use Rattle.decimal.specs.Numbers.{Decimal, figure, longer, IsNumber}
 use Rattle.decimal.specs.Promises.{Stands, NoFigure}
@@ -20,7 +22,7 @@ figure_value d = omega arith
 
 -- the reader has come through a decimal number
 through : (at : ℕ) (text : List ℕ) (value : ℕ) (rest : List ℕ) → Decimal text value → value ≤ 4294967295
-    → first_numeral at (text ++ rest) ≡ going_on value (at + length text) rest
+    → first_numeral at (text ++ rest) ≡ Some (going_on value (at + length text) rest)
 unfolding first_numeral going_on with_figure
 through at text value rest (figure d below) fits =
     simp (is_figure_lem (0x30 + d) (omega arith) (omega arith), figure_value d)
@@ -40,10 +42,10 @@ stops value at [] other = refl
 stops value at (byte ∷ rest) other = simp (goes_not value byte (other byte rest refl))
 
 pub number_read : (text number rest : List ℕ) (at value : ℕ) → IsNumber number value → NoFigure rest → drop at text ≡ number ++ rest
-    → numeral_at text at ≡ good_numeral value (at + length number)
+    → numeral_at text at ≡ Some (good_numeral value (at + length number))
 unfolding IsNumber numeral_at
 number_read text number rest at value n other e =
-    ap (first_numeral at) e ∙ through at number value rest n.0 n.1 ∙ stops value (at + length number) rest other
+    ap (first_numeral at) e ∙ through at number value rest n.0 n.1 ∙ ap Some (stops value (at + length number) rest other)
 
 -- one figure more
 one_more : (front : List ℕ) (value byte : ℕ) → Decimal front value → goes_on value byte ≡ true → Decimal (front ++ (byte ∷ [])) (with_figure value byte)
@@ -100,94 +102,67 @@ goes front value at (byte ∷ s) begun fits = go (goes_on value byte) refl (λ f
         }
 
 -- what stands first in a list, if a number is found there
-record Begins (at : ℕ) (s : List ℕ) : Type 0 where
+record Begins (at : ℕ) (s : List ℕ) (n : Numeral) : Type 0 where
   text : List ℕ
   rest : List ℕ
-  value : ℕ
   cut : s ≡ text ++ rest
-  read : first_numeral at s ≡ good_numeral value (at + length text)
-  is_number : IsNumber text value
+  ends : n.next ≡ at + length text
+  is_number : IsNumber text n.value
 
-begins : (at : ℕ) (s : List ℕ) → (first_numeral at s).found ≡ true → Begins at s
+begins : (at : ℕ) (s : List ℕ) (n : Numeral) → first_numeral at s ≡ Some n → Begins at s n
 unfolding first_numeral
-begins at [] h = absurd (true≢false (sym h))
-begins at (byte ∷ s) h = go (is_figure byte) refl
-  where
-    go : (p : Bool) → is_figure byte ≡ p → Begins at (byte ∷ s)
-    go true e =
-        let low : 0x30 ≤ byte = figure_from byte e in
-        let high : byte ≤ 0x39 = figure_to byte e in
-        let same : 0x30 + (byte - 0x30) ≡ byte = omega arith in
-        let g = goes (byte ∷ []) (byte - 0x30) (at + 1) s (rw same at (figure (byte - 0x30) (omega arith))) (omega arith) in
-        let place : at + 1 + length g.more ≡ at + length (byte ∷ g.more) = omega arith in
-        record {
-          text = byte ∷ g.more;
-          rest = g.rest;
-          value = g.result;
-          cut = ap (λ (l : List ℕ). byte ∷ l) g.cut;
-          read = simp e (g.read ∙ ap (good_numeral g.result) place);
-          is_number = g.is_number;
-        }
-    go false e = absurd (true≢false (sym (simp e at h)))
+begins at [] n h = absurd (none-some n h)
+begins at (byte ∷ s) n h =
+    let is : (is_figure byte ≡ true) × (going_on (byte - 0x30) (at + 1) s ≡ n) = cond_some (is_figure byte) _ n h in
+    let low : 0x30 ≤ byte = figure_from byte is.0 in
+    let high : byte ≤ 0x39 = figure_to byte is.0 in
+    let same : 0x30 + (byte - 0x30) ≡ byte = omega arith in
+    let g = goes (byte ∷ []) (byte - 0x30) (at + 1) s (rw same at (figure (byte - 0x30) (omega arith))) (omega arith) in
+    let read : good_numeral g.result (at + 1 + length g.more) ≡ n = sym g.read ∙ is.1 in
+    let place : at + 1 + length g.more ≡ at + length (byte ∷ g.more) = omega arith in
+    record {
+      text = byte ∷ g.more;
+      rest = g.rest;
+      cut = ap (λ (l : List ℕ). byte ∷ l) g.cut;
+      ends = sym (ap (λ (m : Numeral). m.next) read) ∙ place;
+      is_number = rw (ap (λ (m : Numeral). m.value) read) at g.is_number;
+    }
 
-pub found_stands : (text : List ℕ) (at : ℕ) → (numeral_at text at).found ≡ true → Stands text at (numeral_at text at).at (numeral_at text at).value
+pub found_stands : (text : List ℕ) (at : ℕ) (n : Numeral) → numeral_at text at ≡ Some n → Stands text at n.next n.value
 unfolding numeral_at
-found_stands text at h =
-    let b = begins at (drop at text) h in
-    rw b.read (stood b)
-  where
-    stood : (b : Begins at (drop at text)) → Stands text at (good_numeral b.value (at + length b.text)).at (good_numeral b.value (at + length b.text)).value
-    stood b =
-        let rest : drop (at + length b.text) text ≡ b.rest =
-        sym (drop-drop (length b.text) at text) ∙ ap (drop (length b.text)) b.cut ∙ drop-append_seam b.text b.rest in
-        record { number = b.text; is_number = b.is_number; cut = rw rest b.cut; ends = refl }
+found_stands text at n h =
+    let b = begins at (drop at text) n h in
+    let rest : drop n.next text ≡ b.rest =
+    ap (λ (k : ℕ). drop k text) b.ends
+    ∙ sym (drop-drop (length b.text) at text)
+    ∙ ap (drop (length b.text)) b.cut
+    ∙ drop-append_seam b.text b.rest in
+    record { number = b.text; is_number = b.is_number; cut = rw rest b.cut; ends = b.ends }
 
 -- where none is found, none begins
-goes_found : (value at : ℕ) (s : List ℕ) → (going_on value at s).found ≡ true
-unfolding going_on
-goes_found value at [] = refl
-goes_found value at (byte ∷ s) = go (goes_on value byte) (goes_found (with_figure value byte) (at + 1) s)
-  where
-    go : (p : Bool) → (going_on (with_figure value byte) (at + 1) s).found ≡ true
-        → (cond p (going_on (with_figure value byte) (at + 1) s) (good_numeral value at)).found ≡ true
-    go true h = h
-    go false h = refl
-
-none_at : (at : ℕ) (s : List ℕ) → (first_numeral at s).found ≡ false → first_numeral at s ≡ no_numeral at
-unfolding first_numeral
-none_at at [] h = refl
-none_at at (byte ∷ s) h = go (is_figure byte) refl
-  where
-    go : (p : Bool) → is_figure byte ≡ p → first_numeral at (byte ∷ s) ≡ no_numeral at
-    go true e = absurd (true≢false (sym (goes_found (byte - 0x30) (at + 1) s) ∙ (simp e at h)))
-    go false e = simp e
-
-pub none_stands : (text : List ℕ) (at : ℕ) → (numeral_at text at).found ≡ false
-    → (numeral_at text at ≡ no_numeral at) × ((number rest : List ℕ) (value : ℕ) → IsNumber number value → drop at text ≡ number ++ rest → ⊥)
+pub none_stands : (text : List ℕ) (at : ℕ) → numeral_at text at ≡ None
+    → (number rest : List ℕ) (value : ℕ) → IsNumber number value → drop at text ≡ number ++ rest → ⊥
 unfolding numeral_at IsNumber
-none_stands text at h = (
-  none_at at (drop at text) h,
-  λ number rest value n e.
-      true≢false
-      (sym (ap (λ (m : Numeral). m.found) (ap (first_numeral at) e ∙ through at number value rest n.0 n.1) ∙ goes_found value (at + length number) rest) ∙ h),
-)
+none_stands text at h number rest value n e = none-some _ (sym h ∙ ap (first_numeral at) e ∙ through at number value rest n.0 n.1)
 
 -- a number that stands there is not longer than the one that is read
-further : (value at : ℕ) (s : List ℕ) → at ≤ (going_on value at s).at
+further : (value at : ℕ) (s : List ℕ) → at ≤ (going_on value at s).next
 unfolding going_on
 further value at [] = omega arith
 further value at (byte ∷ s) = go (goes_on value byte) (further (with_figure value byte) (at + 1) s)
   where
-    go : (p : Bool) → at + 1 ≤ (going_on (with_figure value byte) (at + 1) s).at
-        → at ≤ (cond p (going_on (with_figure value byte) (at + 1) s) (good_numeral value at)).at
+    go : (p : Bool) → at + 1 ≤ (going_on (with_figure value byte) (at + 1) s).next
+        → at ≤ (cond p (going_on (with_figure value byte) (at + 1) s) (good_numeral value at)).next
     go true h = omega arith
     go false h = omega arith
 
-pub longest_read : (text number rest : List ℕ) (at value : ℕ) → IsNumber number value → drop at text ≡ number ++ rest
-    → at + length number ≤ (numeral_at text at).at
+pub longest_read : (text number rest : List ℕ) (at value : ℕ) (n : Numeral) → IsNumber number value
+    → drop at text ≡ number ++ rest → numeral_at text at ≡ Some n → at + length number ≤ n.next
 unfolding IsNumber numeral_at
-longest_read text number rest at value n e =
-    rw (ap (first_numeral at) e ∙ through at number value rest n.0 n.1) (further value (at + length number) rest)
+longest_read text number rest at value n is e h =
+    let read : going_on value (at + length number) rest ≡ n =
+    same_Some _ _ (sym (ap (first_numeral at) e ∙ through at number value rest is.0 is.1) ∙ h) in
+    rw read at (further value (at + length number) rest)
 
 -- a number has one spelling
 pub one_decimal : (text other : List ℕ) (value same : ℕ) → Decimal text value → Decimal other same → value ≡ same → text ≡ other

@@ -1,7 +1,9 @@
 -- The crate's promises, proved. Assumes nothing.
 use mathlib.Core.Path.{refl, ap, ◌∙◌}
+use Prim.Native.Nat.{ℕ}
 use lib.ListN.{length}
 use native.Mathlib.Nat.{zero-add}
+use Rattle.std.specs.Prelude.{Some}
 use Rattle.decimal.specs.Numbers.{figure, longer, IsNumber}
 use Rattle.decimal.specs.Reading.{good_numeral}
 use Rattle.decimal.specs.Writing.{decimal, figures_of}
@@ -26,6 +28,6 @@ proved =
       reads = number_read;
       spells = spells;
       laid = λ n. refl;
-      reads_back = λ n rest fits other. number_read _ (decimal n) rest 0 n (spells n, fits) other refl ∙ ap (good_numeral n) (zero-add (length (decimal n)));
+      reads_back = λ n rest fits other. number_read _ (decimal n) rest 0 n (spells n, fits) other refl ∙ ap (λ (k : ℕ). Some (good_numeral n k)) (zero-add (length (decimal n)));
       at_most = λ n k some below. (at_least n, few k n some below);
     }

@@ -1,8 +1,10 @@
 -- What is promised of decimal numbers, read and written: document 01, "The rank sheet".
-use Rattle.std.specs.Prelude.{ℕ, ◌+◌, ◌*◌, ◌-◌, ◌^◌, ◌≤◌, ◌<◌, ◌≡◌, ◌↔◌, List, [], ◌∷◌, ◌++◌, true, false, length, drop, replicate}
+use Rattle.std.specs.Prelude.{ℕ, ◌+◌, ◌*◌, ◌-◌, ◌^◌, ◌≤◌, ◌<◌, ◌≡◌, ◌↔◌, List, [], ◌∷◌, ◌++◌, true, false}
+use Rattle.std.specs.Prelude.{length, drop, replicate, Some, None}
 use Rattle.decimal.specs.Numbers.{Decimal, IsNumber}
 use Rattle.decimal.specs.Reading.{is_figure, numeral_at}
 use Rattle.decimal.specs.Writing.{decimal, figures_of}
+use Rattle.decimal.specs.declared.Numeral.{Numeral}
 
 -- the number that is read at a place stands there, and is a number
 pub record Stands (text : List ℕ) (at next value : ℕ) : Type 0 where
@@ -29,22 +31,19 @@ pub record Promises : Type 0 where
   pub one_spelling : (text other : List ℕ) (value : ℕ) → Decimal text value → Decimal other value → text ≡ other
   pub one_value : (text : List ℕ) (value other : ℕ) → Decimal text value → Decimal text other → value ≡ other
   -- what is read is a number that stands there
-  pub found_stands :
-      (text : List ℕ) (at : ℕ) → (numeral_at text at).found ≡ true
-      → Stands text at (numeral_at text at).at (numeral_at text at).value
+  pub found_stands : (text : List ℕ) (at : ℕ) (n : Numeral) → numeral_at text at ≡ Some n → Stands text at n.next n.value
   -- the longest one that does,
   pub longest :
-      (text number rest : List ℕ) (at value : ℕ) → IsNumber number value → drop at text ≡ number ++ rest
-      → at + length number ≤ (numeral_at text at).at
-  -- and where none is found, none begins there; the place is the one that was asked for
+      (text number rest : List ℕ) (at value : ℕ) (n : Numeral) → IsNumber number value → drop at text ≡ number ++ rest
+      → numeral_at text at ≡ Some n → at + length number ≤ n.next
+  -- and where none is found, none begins there
   pub none_stands :
-      (text : List ℕ) (at : ℕ) → (numeral_at text at).found ≡ false
-      → (numeral_at text at ≡ record { found = false; at = at; value = 0 })
-      × ((number rest : List ℕ) (value : ℕ) → IsNumber number value → drop at text ≡ number ++ rest → ⊥)
+      (text : List ℕ) (at : ℕ) → numeral_at text at ≡ None
+      → (number rest : List ℕ) (value : ℕ) → IsNumber number value → drop at text ≡ number ++ rest → ⊥
   -- a number before something that is no figure is read
   pub reads :
       (text number rest : List ℕ) (at value : ℕ) → IsNumber number value → NoFigure rest → drop at text ≡ number ++ rest
-      → numeral_at text at ≡ record { found = true; at = at + length number; value = value }
+      → numeral_at text at ≡ Some (record { value = value; next = at + length number })
   -- what is written spells the number,
   pub spells : (n : ℕ) → Decimal (decimal n) n
   -- at the end of twenty bytes, behind zeros,
@@ -54,6 +53,6 @@ pub record Promises : Type 0 where
   -- so it is read back,
   pub reads_back :
       (n : ℕ) (rest : List ℕ) → n ≤ 4294967295 → NoFigure rest
-      → numeral_at (decimal n ++ rest) 0 ≡ record { found = true; at = length (decimal n); value = n }
+      → numeral_at (decimal n ++ rest) 0 ≡ Some (record { value = n; next = length (decimal n) })
   -- and a number below 10^k has at most k figures, one at least
   pub at_most : (n k : ℕ) → 1 ≤ k → n < 10 ^ k → (1 ≤ length (decimal n)) × (length (decimal n) ≤ k)

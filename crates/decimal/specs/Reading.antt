@@ -1,13 +1,10 @@
 -- Reading a decimal number by place: the longest one that begins there.
-use Rattle.std.specs.Prelude.{ℕ, ◌+◌, ◌*◌, ◌-◌, List, [], ◌∷◌, Bool, true, false, cond, ◌&&◌, leb, drop}
+use Rattle.std.specs.Prelude.{ℕ, ◌+◌, ◌*◌, ◌-◌, List, [], ◌∷◌, Bool, cond, ◌&&◌, leb, drop, Option, Some, None}
 use Rattle.decimal.specs.declared.Numeral.{Numeral}
 
--- a number and the place after it; or that none begins at a place
+-- a number and the place after it
 abbrev pub good_numeral : (value next : ℕ) → Numeral
-good_numeral value next = record { found = true; at = next; value = value }
-
-abbrev pub no_numeral : (at : ℕ) → Numeral
-no_numeral at = record { found = false; at = at; value = 0 }
+good_numeral value next = record { value = value; next = next }
 
 -- a figure of a decimal number
 unfoldable pub is_figure : (byte : ℕ) → Bool
@@ -26,10 +23,10 @@ unfoldable pub going_on : (value at : ℕ) (text : List ℕ) → Numeral
 going_on value at [] = good_numeral value at
 going_on value at (byte ∷ rest) = cond (goes_on value byte) (going_on (with_figure value byte) (at + 1) rest) (good_numeral value at)
 
--- "Numbers are decimal": the number that stands first in the bytes from a place
-unfoldable pub first_numeral : (at : ℕ) (text : List ℕ) → Numeral
-first_numeral at [] = no_numeral at
-first_numeral at (byte ∷ rest) = cond (is_figure byte) (going_on (byte - 0x30) (at + 1) rest) (no_numeral at)
+-- "Numbers are decimal": the number that stands first in the bytes from a place; none where no figure does
+unfoldable pub first_numeral : (at : ℕ) (text : List ℕ) → Option Numeral
+first_numeral at [] = None
+first_numeral at (byte ∷ rest) = cond (is_figure byte) (Some (going_on (byte - 0x30) (at + 1) rest)) None
 
-unfoldable pub numeral_at : (text : List ℕ) (at : ℕ) → Numeral
+unfoldable pub numeral_at : (text : List ℕ) (at : ℕ) → Option Numeral
 numeral_at text at = first_numeral at (drop at text)

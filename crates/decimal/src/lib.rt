@@ -3,103 +3,70 @@
 
 ghost use Rattle.std.specs.Prelude.{◌≡◌, length};
 ghost use Rattle.buffers.specs.Copy.{copied};
-ghost use Rattle.decimal.specs.Reading.{is_figure, goes_on, good_numeral, no_numeral, numeral_at};
+ghost use Rattle.decimal.specs.Reading.{goes_on, numeral_at};
 ghost use Rattle.decimal.specs.Writing.{decimal, figures_of};
 
-// The number that begins at a place, and the place after it; or that none begins there, and that place.
-#[derive(Clone, Copy)]
+// A number that begins at a place, and the place after it.
+#[derive(Clone, Copy, Debug, PartialEq, Eq)]
 pub struct Numeral {
-    pub found: bool,
-    pub at: usize,
     pub value: u32,
+    pub next: usize,
 }
 
-// A number's figures: the last of these bytes, from an index on.
-#[derive(Clone, Copy)]
+// A number's figures: the last of these bytes, from an index on. They are no String: a library has no heap.
+#[derive(Clone, Copy, Debug, PartialEq, Eq)]
 pub struct Figures {
     pub bytes: [u8; 20],
     pub from: usize,
-}
-
-const LARGEST: u32 = 4294967295;
-
-const ZERO: u8 = 48;
-
-const NINE: u8 = 57;
-
-fn good_numeral(value: u32, next: usize) -> Numeral
-    ensures { result ≡ good_numeral value next }
-{
-    Numeral {
-        found: true,
-        at: next,
-        value,
-    }
-}
-
-fn no_numeral(at: usize) -> Numeral
-    ensures { result ≡ no_numeral at }
-{
-    Numeral {
-        found: false,
-        at,
-        value: 0,
-    }
-}
-
-fn is_figure(byte: u8) -> bool
-    ensures { result ≡ is_figure byte }
-{
-    ZERO <= byte && byte <= NINE
 }
 
 // Whether a number goes on with a byte: not where it is 0, and not where it would be too large.
 fn goes_on(value: u32, byte: u8) -> bool
     ensures { result ≡ goes_on value byte }
 {
-    if !is_figure(byte) {
+    if !byte.is_ascii_digit() {
         return false;
     }
-    let more = value as u64 * 10 + (byte - ZERO) as u64;
-    1 <= value && more <= LARGEST as u64
+    let more = value as u64 * 10 + (byte - b'0') as u64;
+    1 <= value && more <= u32::MAX as u64
 }
 
-// The number that begins at a place: the longest one.
-pub fn read(text: &[u8], at: usize) -> Numeral
+// The number that begins at a place: the longest one; None where none does.
+pub fn read(text: &[u8], at: usize) -> Option<Numeral>
     ensures { result ≡ numeral_at text.now at }
 {
     if text.len() <= at {
-        return no_numeral(at);
+        return None;
     }
     let first = text[at];
-    if !is_figure(first) {
-        return no_numeral(at);
+    if !first.is_ascii_digit() {
+        return None;
     }
-    let mut value = (first - ZERO) as u32;
+    let mut value = (first - b'0') as u32;
     let mut next = at + 1;
-    while next < text.len() {
-        let byte = text[next];
+    for &byte in &text[at + 1..] {
         if !goes_on(value, byte) {
-            return good_numeral(value, next);
+            break;
         }
-        value = value * 10 + (byte - ZERO) as u32;
+        value = value * 10 + (byte - b'0') as u32;
         next += 1;
     }
-    good_numeral(value, next)
+    Some(Numeral { value, next })
 }
 
-// The figures of a number, the last one first. A number of 64 bits has at most twenty.
+// The figures of a number, the last one first. A number of 64 bits has at most twenty. The loop ends where the number does and not where
+// the bytes do, so it is no `for`.
 pub fn figures_of(n: u64) -> Figures
     ensures { result ≡ figures_of n }
 {
     let mut bytes = [0u8; 20];
     let mut from: usize = 19;
-    bytes[from] = ZERO + (n % 10) as u8;
+    bytes[from] = b'0' + (n % 10) as u8;
     let mut left = n / 10;
     while 0 < left {
         from -= 1;
-        bytes[from] = ZERO + (left % 10) as u8;
-        left = left / 10;
+        bytes[from] = b'0' + (left % 10) as u8;
+        left /= 10;
     }
     Figures { bytes, from }
 }
@@ -109,8 +76,6 @@ pub fn write(dst: &mut [u8], at: usize, n: u64) -> usize
     ensures { (result ≡ length (decimal n)) × (dst.new ≡ copied dst.old at (decimal n)) }
 {
     let figures = figures_of(n);
-    let bytes = figures.bytes;
-    let from = figures.from;
-    buffers::copy(dst, at, &bytes[from..]);
-    20 - from
+    buffers::copy(dst, at, &figures.bytes[figures.from..]);
+    20 - figures.from
 }

@@ -1,3 +1,3 @@
 pub mod Laid
-pub mod Ring
+pub mod Rounds
 pub mod Walks

@@ -6,4 +6,5 @@ pub mod Comparing
 pub mod Refusing
 pub mod Following
 pub mod Ending
+pub mod Telling
 pub mod Proved

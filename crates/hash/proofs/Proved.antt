@@ -18,6 +18,7 @@ use Rattle.hash.proofs.Taking.{afterPiece_nil, inOrder_afterPiece}
 use Rattle.hash.proofs.Updating.{update_takes, update_passes}
 use Rattle.hash.proofs.Comparing.{held}
 use Rattle.hash.proofs.Refusing.{update_refusals, finish_refusals, digest_refusals, message_compared, state_compared}
+use Rattle.hash.proofs.Telling.{telling, all_updated, all_digested, all_compared}
 use Rattle.hash.proofs.Cutting.{all_pieces, finish_folds, finish_fresh, digest_sm3}
 
 fresh_state : Fresh
@@ -101,4 +102,8 @@ proved =
       state_compared = state_compared;
       held = held;
       no_digest_lem = no_digest_lem;
+      telling = telling;
+      all_updated = all_updated;
+      all_digested = all_digested;
+      all_compared = all_compared;
     }

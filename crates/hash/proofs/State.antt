@@ -3,17 +3,18 @@ use mathlib.Core.Path.{◌≡◌, refl, sym, ap, ◌∙◌}
 use Prim.Native.Nat.{ℕ, zero, suc, ◌+◌, ◌-◌, ◌%◌, ◌≤◌, ◌<◌}
 use native.Mathlib.Nat.{sub-zero, zero-sub, suc-sub-suc}
 use native.Mathlib.Omega.{arith}
-use mathlib.Core.Bool.{true, false, ◌&&◌, and_assoc, and-true}
+use mathlib.Core.Bool.{Bool, true, false, ◌&&◌, and-true}
+use mathlib.Core.Logic.{inl, inr}
 use mathlib.Core.List.{List, [], ◌++◌, append-nil}
 use lib.Dec.{leb, eqb}
 use lib.ListN.{length, get_or, take, drop, replicate, length-append, length-drop, take-append-drop, length-replicate, get_or-replicate}
 use lib.Seq.{take_all, take-length, length-take-le, take_at, drop_at, get_or-drop, drop-drop, ext_get_or}
-use borrow.Author.Tests.{leb-true, le-leb, lt-leb, eqb-true}
+use borrow.Author.Tests.{leb-true, le-leb, eqb-true}
 use Rattle.buffers.specs.Copy.{copied}
 use Rattle.buffers.proofs.Copied.{copied_fits, copied_front}
 use Rattle.buffers.specs.Same.{same, all_zero}
 use Rattle.buffers.proofs.Comparing.{same_equal, same_self, equal_same}
-use Rattle.truth.proofs.Tests.{first, second, both}
+use Rattle.truth.proofs.Tests.{either, first, second, both}
 use Rattle.standard.specs.declared.Words.{Words}
 use Rattle.standard.specs.Standard.{IV}
 use Rattle.units.specs.Units.{longest}
@@ -45,18 +46,14 @@ pub asTail_full : (s : List ℕ) → length s ≡ 64 → as_tail s ≡ s
 unfolding as_tail
 asTail_full s e = rw e (append-nil s)
 
--- as the code decides it: the total first, and then the trailing bytes against zeros
-pub too_much : (h : Hash) → longest < h.total → in_order h ≡ false
+-- as the code decides it: the total, and the trailing bytes against zeros
+pub trailing_zeros : (h : Hash) → length h.tail ≡ 64
+    → in_order h ≡ (leb h.total longest && all_zero (take (64 - h.total % 64) (drop (h.total % 64) h.tail)))
 unfolding in_order
-too_much h past = rw (lt-leb h.total longest past)
-
-pub trailing_zeros : (h : Hash) → h.total ≤ longest → length h.tail ≡ 64
-    → all_zero (take (64 - h.total % 64) (drop (h.total % 64) h.tail)) ≡ in_order h
-unfolding in_order
-trailing_zeros h fits l =
+trailing_zeros h l =
     let r = h.total % 64 in
     let n : length (drop r h.tail) ≡ 64 - r = omega (arith, length-drop r h.tail) in
-    rw (le-leb h.total longest fits, take_all (64 - r) (drop r h.tail) (omega arith), n)
+    rw (take_all (64 - r) (drop r h.tail) (omega arith), n)
 
 -- a state whose tail is made of as many bytes as its total says keeps those, and is in order
 module _ (w : Words) (n : ℕ) (s : List ℕ) (e : length s ≡ n % 64) where
@@ -136,12 +133,38 @@ unfolding fresh as_tail
 inOrder_fresh = inOrder_asTail IV 0 [] refl (omega arith)
 
 -- words compared one by one
-pub words_same : (v w : Words)
-    → (eqb v.a w.a && eqb v.b w.b && eqb v.c w.c && eqb v.d w.d
-    && eqb v.e w.e && eqb v.f w.f && eqb v.g w.g && eqb v.h w.h)
-    ≡ same (in_list v) (in_list w)
+abbrev pub words_equal_each : (v w : Words) → Bool
+words_equal_each v w =
+    eqb v.a w.a && (eqb v.b w.b && (eqb v.c w.c && (eqb v.d w.d && (eqb v.e w.e && (eqb v.f w.f && (eqb v.g w.g && eqb v.h w.h))))))
+
+words_same : (v w : Words) → words_equal_each v w ≡ same (in_list v) (in_list w)
 unfolding same in_list
-words_same v w = simp (and_assoc, and-true)
+words_same v w = simp and-true
+
+-- a state that has taken nothing is in order when its tail is zeros: with the start words it is the fresh one
+none_taken : (h : Hash) → h.total ≡ 0 → in_order h ≡ same h.tail (replicate 64 0)
+unfolding in_order
+none_taken h e = rw e
+
+pub ordered_fresh : (h : Hash) (o w : Bool) → o ≡ in_order h → w ≡ words_equal_each h.words IV → (o && eqb h.total 0 && w) ≡ is_fresh h
+unfolding is_fresh
+ordered_fresh h o w e f =
+    elim (either (eqb h.total 0)) [
+      | inl t ↦ rw (e, f, none_taken h (eqb-true _ _ t), t, words_same h.words IV) (swapped (same h.tail (replicate 64 0)) (same (in_list h.words) (in_list IV)))
+      | inr t ↦ rw t (both_no o w (same (in_list h.words) (in_list IV)) (same h.tail (replicate 64 0)))
+    ]
+  where
+    swapped : (s c : Bool) → (s && true && c) ≡ (c && true && s)
+    swapped true true = refl
+    swapped true false = refl
+    swapped false true = refl
+    swapped false false = refl
+
+    both_no : (o w c s : Bool) → (o && false && w) ≡ (c && false && s)
+    both_no true w true s = refl
+    both_no true w false s = refl
+    both_no false w true s = refl
+    both_no false w false s = refl
 
 -- the fresh state is the only one that counts as fresh
 words_equal : (v w : Words) → in_list v ≡ in_list w → v ≡ w

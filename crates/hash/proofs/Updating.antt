@@ -25,3 +25,5 @@ module _ (h : Hash) (x : List ℕ) where
   pub update_takes : in_order h ≡ true → h.total + length x ≤ longest → update h x ≡ record { number = accepted; state = after_piece h x }
   unfolding update
   update_takes o fits = rw (o, le-ltb (longest - h.total) (length x) (omega arith))
+
+pub ruleset updates = (total_le, update_spoilt, update_passes, update_takes)

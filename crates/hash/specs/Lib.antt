@@ -3,5 +3,5 @@ pub mod State
 pub mod Update
 pub mod Cutting
 pub mod Digests
-pub mod Following
+pub mod Told
 pub mod Promises

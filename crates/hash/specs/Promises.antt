@@ -1,7 +1,9 @@
 -- What is promised of the hash state, over the definitions that the functions' contracts cite. Quotations are document 01's, where no
 -- other paper is named.
-use Rattle.std.specs.Prelude.{◌≡◌, ◌↔◌, ℕ, ◌+◌, ◌-◌, ◌%◌, ◌≤◌, ◌<◌, true, false, List, [], ◌∷◌, ◌++◌, length, get_or, take, replicate}
-use Rattle.refusal.specs.Table.{accepted, state_not_in_order, too_long, wrong_size}
+use Rattle.std.specs.Prelude.{◌≡◌, ◌↔◌, ℕ, ◌+◌, ◌-◌, ◌%◌, ◌≤◌, ◌<◌, Bool, true, false, List, [], ◌∷◌, ◌++◌, length, get_or, take, replicate}
+use Rattle.std.specs.Prelude.{Result, Ok, Err}
+use Rattle.refusal.specs.Table.{accepted, state_not_in_order, too_long, wrong_size, number_by}
+use Rattle.refusal.specs.declared.Refusal.{Refusal}
 use Rattle.standard.specs.Standard.{IV, folded, rest, hash_value}
 use Rattle.units.specs.Units.{longest}
 use Rattle.padding.specs.Padding.{padding, padded}
@@ -10,6 +12,7 @@ use Rattle.hash.specs.State.{fresh, is_fresh, in_order}
 use Rattle.hash.specs.Update.{update}
 use Rattle.hash.specs.Cutting.{joined, after_all_of, numbers_of, after_all, numbers}
 use Rattle.hash.specs.Digests.{no_digest, finish, digest, compared, compare_message, compare_state}
+use Rattle.hash.specs.Told.{updated_of, told_digest, compared_of}
 use Rattle.hash.specs.declared.Hash.{Hash}
 use Rattle.hash.specs.declared.Updated.{Updated}
 use Rattle.hash.specs.declared.Digest.{Digest}
@@ -171,6 +174,15 @@ pub record Held (d : Digest) (expected : List ℕ) (answer : Compared) : Type 0 
 abbrev pub NoDigest : Type 0
 NoDigest = (number : ℕ) → no_digest number ≡ record { number = number; bytes = replicate 32 0 }
 
+-- what a C host is told of a call: its number, and what it gives, or what stands there where it is refused
+pub record Telling (h : Hash) (bytes : List ℕ) (same : Bool) (refusal : Refusal) : Type 0 where
+  pub updated : (after : Hash) → updated_of h (Ok after) ≡ record { number = accepted; state = after }
+  pub not_updated : updated_of h (Err refusal) ≡ record { number = number_by refusal; state = h }
+  pub digested : told_digest (Ok bytes) ≡ record { number = accepted; bytes = bytes }
+  pub not_digested : told_digest (Err refusal) ≡ record { number = number_by refusal; bytes = replicate 32 0 }
+  pub compared : compared_of (Ok same) ≡ record { number = accepted; same = same }
+  pub not_compared : compared_of (Err refusal) ≡ record { number = number_by refusal; same = false }
+
 pub record Promises : Type 0 where
   pub in_order_lem : InOrder
   pub fresh_state : Fresh
@@ -193,3 +205,8 @@ pub record Promises : Type 0 where
   pub state_compared : StateCompared
   pub held : (d : Digest) (expected : List ℕ) → Held d expected (compared d expected)
   pub no_digest_lem : NoDigest
+  pub telling : (h : Hash) (bytes : List ℕ) (same : Bool) (refusal : Refusal) → Telling h bytes same refusal
+  -- so a host is told all that a call answered
+  pub all_updated : (h : Hash) (x y : Result Hash Refusal) → updated_of h x ≡ updated_of h y → x ≡ y
+  pub all_digested : (x y : Result (List ℕ) Refusal) → told_digest x ≡ told_digest y → x ≡ y
+  pub all_compared : (x y : Result Bool Refusal) → compared_of x ≡ compared_of y → x ≡ y

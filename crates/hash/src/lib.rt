@@ -2,16 +2,14 @@
 #![tactic(auto)]
 
 ghost use Rattle.std.specs.Prelude.{◌≡◌, true, ◌++◌, ◌+◌, ◌≤◌, length};
-ghost use Rattle.hash.specs.State.{fresh, in_list, is_fresh, in_order, as_tail};
-ghost use Rattle.refusal.specs.Table.{accepted};
+ghost use Rattle.hash.specs.State.{fresh, is_fresh, in_order, as_tail};
 ghost use Rattle.standard.specs.Standard.{folded, rest, hash_value};
 ghost use Rattle.units.specs.Units.{longest};
-ghost use Rattle.buffers.specs.Same.{same};
 ghost use Rattle.hash.specs.Update.{after_piece, update};
-ghost use Rattle.hash.specs.Digests.{no_digest, finish, digest, compared, compare_message, compare_state};
-ghost use Rattle.hash.specs.Following.{followed, finished};
+ghost use Rattle.hash.specs.Digests.{finish, digest, compared, compare_message, compare_state};
+ghost use Rattle.hash.specs.Told.{updated_of, told_digest, compared_of};
 
-use refusal::{ACCEPTED, STATE_NOT_IN_ORDER, TOO_LONG, WRONG_SIZE};
+use refusal::{ACCEPTED, Refusal};
 use standard::Words;
 use units::{Bytes, LONGEST};
 
@@ -22,30 +20,6 @@ pub struct Hash {
     pub words: Words,
     pub total: u64,
     pub tail: [u8; 64],
-}
-
-// What update answers.
-#[repr(C)]
-#[derive(Clone, Copy)]
-pub struct Updated {
-    pub number: u8,
-    pub state: Hash,
-}
-
-// What finish and the one call answer.
-#[repr(C)]
-#[derive(Clone, Copy)]
-pub struct Digest {
-    pub number: u8,
-    pub bytes: [u8; 32],
-}
-
-// What a comparison answers.
-#[repr(C)]
-#[derive(Clone, Copy)]
-pub struct Compared {
-    pub number: u8,
-    pub same: bool,
 }
 
 impl Hash {
@@ -73,50 +47,36 @@ impl Hash {
         }
     }
 
-    // Whether this is the fresh start: a decided note's state has to be.
+    // Whether this is the fresh start: a decided note's state has to be. Of a state in order that has taken nothing, the tail is 64 zeros.
+    // (`==` of two states is unrolled, and the tail is then taken apart byte by byte: 240 instructions more for each delivery.)
     pub fn is_fresh(self) -> bool
         ensures { result ≡ is_fresh self }
     {
-        // held against zeros: `all_zero` of so many bytes is unrolled, and the tail then taken apart byte by byte
-        let tail = self.tail;
-        let zeros = [0u8; Hash::BLOCK];
-        same_words(self.words, Hash::START) & (self.total == 0) & buffers::same(&tail, &zeros)
+        self.in_order() & (self.total == 0) & (self.words == Hash::START)
     }
 
     // "total is at most 2^61 - 1 and those trailing bytes are zero"
     pub fn in_order(self) -> bool
         ensures { result ≡ in_order self }
     {
-        let total = self.total;
-        if LONGEST < total {
-            return false;
-        }
-        let kept = (total % 64) as usize;
+        let kept = (self.total % 64) as usize;
+        // copied: where the tail of a state by value is lent, it is laid down byte by byte
         let tail = self.tail;
-        buffers::all_zero(&tail[kept..])
+        (self.total <= LONGEST) & buffers::all_zero(&tail[kept..])
     }
 
     // Refusals 9 and 10. What room is left is compared with the piece: their sum could pass 2^64.
-    pub fn update(self, piece: &[u8]) -> Updated
-        ensures { result ≡ update self piece.now }
+    #[tactic(auto, using(crate::proofs::Updating::updates))]
+    pub fn update(self, piece: &[u8]) -> Result<Hash, Refusal>
+        ensures { updated_of self result ≡ update self piece.now }
     {
         if !self.in_order() {
-            return Updated {
-                number: STATE_NOT_IN_ORDER,
-                state: self,
-            };
+            return Err(Refusal::StateNotInOrder);
         }
         if LONGEST - self.total < piece.len() as u64 {
-            return Updated {
-                number: TOO_LONG,
-                state: self,
-            };
+            return Err(Refusal::TooLong);
         }
-        let after = self.after_piece(piece);
-        Updated {
-            number: ACCEPTED,
-            state: after,
-        }
+        Ok(self.after_piece(piece))
     }
 
     // At most 63 bytes of the piece fill the tail up to a block, at most 63 are left over in the end: no others are copied.
@@ -142,25 +102,25 @@ impl Hash {
     }
 
     // Refusal 9. The state is as it was: it came by value.
-    pub fn finish(self) -> Digest
-        ensures { result ≡ finish self }
+    pub fn finish(self) -> Result<[u8; 32], Refusal>
+        ensures { told_digest result ≡ finish self }
     {
-        if !self.in_order() {
-            return no_digest(STATE_NOT_IN_ORDER);
+        let ordered = self.in_order();
+        if !ordered {
+            return Err(Refusal::StateNotInOrder);
         }
         let tail = self.tail;
         let mut last = [0u8; 2 * Hash::BLOCK];
         buffers::copy(&mut last, 0, &tail);
-        let written = padding::pad(&mut last, Bytes(self.total));
-        let count = written.count;
-        ended(self.words, &last[..count])
+        let count = padding::pad(&mut last, Bytes(self.total)).unwrap();
+        Ok(ended(self.words, &last[..count]))
     }
 
     // Final, held against an expected digest: refusals 9 and 11.
-    pub fn matches(self, expected: &[u8]) -> Compared
-        ensures { result ≡ compare_state self expected.now }
+    pub fn matches(self, expected: &[u8]) -> Result<bool, Refusal>
+        ensures { compared_of result ≡ compare_state self expected.now }
     {
-        against(self.finish(), expected)
+        compare(self.finish(), expected)
     }
 }
 
@@ -186,121 +146,146 @@ fn tail_of(bytes: &[u8]) -> [u8; 64]
     tail
 }
 
-// Eight words compared one by one.
-fn same_words(v: Words, w: Words) -> bool
-    ensures { result ≡ same (in_list v) (in_list w) }
-{
-    (v.a == w.a)
-        & (v.b == w.b)
-        & (v.c == w.c)
-        & (v.d == w.d)
-        & (v.e == w.e)
-        & (v.f == w.f)
-        & (v.g == w.g)
-        & (v.h == w.h)
-}
-
 // One call for a whole message: refusal 10. Its whole blocks are folded where they lie.
-pub fn digest_of(message: &[u8]) -> Digest
-    ensures { result ≡ digest message.now }
+pub fn digest_of(message: &[u8]) -> Result<[u8; 32], Refusal>
+    ensures { told_digest result ≡ digest message.now }
 {
     let mut last = [0u8; 2 * Hash::BLOCK];
-    let written = padding::write(message, &mut last);
-    if written.number != ACCEPTED {
-        return no_digest(written.number);
-    }
-    let count = written.count;
-    ended(folding::fold(Hash::START, message), &last[..count])
+    let count = padding::write(message, &mut last)?;
+    Ok(ended(folding::fold(Hash::START, message), &last[..count]))
 }
 
 // The one call, held against an expected digest: refusals 10 and 11.
-pub fn matches(message: &[u8], expected: &[u8]) -> Compared
-    ensures { result ≡ compare_message message.now expected.now }
+pub fn matches(message: &[u8], expected: &[u8]) -> Result<bool, Refusal>
+    ensures { compared_of result ≡ compare_message message.now expected.now }
 {
-    against(digest_of(message), expected)
+    compare(digest_of(message), expected)
 }
 
 // The digest of a message that comes in two pieces, and in three: refusal 10 goes by all of them. No piece is copied to stand by another.
-pub fn digest_of_two(first: &[u8], second: &[u8]) -> Digest
-    ensures { result ≡ digest (first.now ++ second.now) }
+pub fn digest_of_two(first: &[u8], second: &[u8]) -> Result<[u8; 32], Refusal>
+    ensures { told_digest result ≡ digest (first.now ++ second.now) }
 {
-    let one = Hash::fresh().update(first);
-    let two = followed(one, second);
-    finished(two)
+    Hash::fresh().update(first)?.update(second)?.finish()
 }
 
-pub fn digest_of_three(first: &[u8], second: &[u8], third: &[u8]) -> Digest
-    ensures { result ≡ digest (first.now ++ (second.now ++ third.now)) }
+pub fn digest_of_three(first: &[u8], second: &[u8], third: &[u8]) -> Result<[u8; 32], Refusal>
+    ensures { told_digest result ≡ digest (first.now ++ (second.now ++ third.now)) }
 {
-    let one = Hash::fresh().update(first);
-    let two = followed(one, second);
-    let three = followed(two, third);
-    finished(three)
-}
-
-// What an update answered, and a piece more, unless it was a refusal.
-fn followed(u: Updated, piece: &[u8]) -> Updated
-    ensures { result ≡ followed u piece.now }
-{
-    if u.number != ACCEPTED {
-        return u;
-    }
-    let state = u.state;
-    state.update(piece)
-}
-
-// The digest of what an update answered, unless it was a refusal.
-fn finished(u: Updated) -> Digest
-    ensures { result ≡ finished u }
-{
-    if u.number != ACCEPTED {
-        return no_digest(u.number);
-    }
-    let state = u.state;
-    state.finish()
+    Hash::fresh()
+        .update(first)?
+        .update(second)?
+        .update(third)?
+        .finish()
 }
 
 // The digest once the last bytes, the padding with them, are folded.
-fn ended(words: Words, last: &[u8]) -> Digest
-    ensures { result ≡ record { number = accepted; bytes = hash_value (folded words last.now) } }
+fn ended(words: Words, last: &[u8]) -> [u8; 32]
+    ensures { result ≡ hash_value (folded words last.now) }
 {
-    let all = folding::fold(words, last);
-    Digest {
-        number: ACCEPTED,
-        bytes: standard::hash_value(all),
-    }
-}
-
-// A refused digest: "all zero".
-pub fn no_digest(number: u8) -> Digest
-    ensures { result ≡ no_digest number }
-{
-    Digest {
-        number,
-        bytes: [0; 32],
-    }
+    standard::hash_value(folding::fold(words, last))
 }
 
 // A digest held against an expected one: what the digest was refused for comes first, then 11.
+#[tactic(auto, using(crate::proofs::Comparing::comparisons))]
+pub fn compare(digest: Result<[u8; 32], Refusal>, expected: &[u8]) -> Result<bool, Refusal>
+    ensures { compared_of result ≡ compared (told_digest digest) expected.now }
+{
+    let bytes = digest?;
+    if expected.len() != 32 {
+        return Err(Refusal::WrongSize);
+    }
+    Ok(buffers::same(&bytes, expected))
+}
+
+// The same of a digest as a C host is told of it, which may hold any number.
+#[tactic(auto, using(crate::proofs::Comparing::compared_refused))]
 pub fn against(d: Digest, expected: &[u8]) -> Compared
     ensures { result ≡ compared d expected.now }
 {
-    let number = d.number;
-    if number != ACCEPTED {
-        return Compared {
-            number,
+    if d.number == ACCEPTED {
+        compare(Ok(d.bytes), expected).into()
+    } else {
+        Compared {
+            number: d.number,
             same: false,
-        };
+        }
     }
-    if expected.len() != 32 {
-        return Compared {
-            number: WRONG_SIZE,
-            same: false,
-        };
+}
+
+// What a C host is told of an update.
+#[repr(C)]
+#[derive(Clone, Copy)]
+pub struct Updated {
+    pub number: u8,
+    pub state: Hash,
+}
+
+impl Updated {
+    // Of a state that a piece was given: refused, the state is as it was.
+    pub fn told(before: Hash, answer: Result<Hash, Refusal>) -> Updated
+        ensures { result ≡ updated_of before answer }
+    {
+        match answer {
+            Ok(after) => Updated {
+                number: ACCEPTED,
+                state: after,
+            },
+            Err(refusal) => Updated {
+                number: refusal.number(),
+                state: before,
+            },
+        }
     }
-    let bytes = d.bytes;
-    Compared {
-        number: ACCEPTED,
-        same: buffers::same(&bytes, expected),
+}
+
+// What it is told of finish and of the one call. A refused digest: "all zero".
+#[repr(C)]
+#[derive(Clone, Copy)]
+pub struct Digest {
+    pub number: u8,
+    pub bytes: [u8; 32],
+}
+
+impl From<Result<[u8; 32], Refusal>> for Digest {
+    ghost from_gives = { λ answer d. d ≡ told_digest answer };
+
+    #[tactic(auto, unfolding(crate::specs::Digests::no_digest))]
+    fn from(answer: Result<[u8; 32], Refusal>) -> Digest {
+        match answer {
+            Ok(digest) => Digest {
+                number: ACCEPTED,
+                bytes: digest,
+            },
+            Err(refusal) => Digest {
+                number: refusal.number(),
+                bytes: [0; 32],
+            },
+        }
+    }
+}
+
+// What it is told of a comparison: a refused one says no.
+#[repr(C)]
+#[derive(Clone, Copy)]
+pub struct Compared {
+    pub number: u8,
+    pub same: bool,
+}
+
+impl From<Result<bool, Refusal>> for Compared {
+    ghost from_gives = { λ answer c. c ≡ compared_of answer };
+
+    fn from(answer: Result<bool, Refusal>) -> Compared {
+        match answer {
+            Ok(equal) => Compared {
+                number: ACCEPTED,
+                same: equal,
+            },
+            Err(refusal) => Compared {
+                number: refusal.number(),
+                same: false,
+            },
+        }
     }
 }

@@ -5,7 +5,7 @@ ghost use Rattle.std.specs.Prelude.{◌≡◌, get_or};
 ghost use Rattle.hex_digits.specs.Digits.{digits, letter_of};
 
 // 255 for a byte that is no digit.
-const DIGITS: [u8; 256] = [
+static DIGITS: [u8; 256] = [
     255, 255, 255, 255, 255, 255, 255, 255, 255, 255, 255, 255, 255, 255, 255, 255, 255, 255, 255,
     255, 255, 255, 255, 255, 255, 255, 255, 255, 255, 255, 255, 255, 255, 255, 255, 255, 255, 255,
     255, 255, 255, 255, 255, 255, 255, 255, 255, 255, 0, // 0
@@ -42,29 +42,35 @@ const DIGITS: [u8; 256] = [
     255,
 ];
 
-// The table. A constant array is built on the stack wherever it is named, so who reads many digits asks for it once and lends it.
+// The table.
 pub fn table() -> [u8; 256]
     ensures { result ≡ digits }
 {
     DIGITS
 }
 
-// The digit of a byte, looked up in the lent table.
+// The digit of a byte, looked up in a lent table.
 pub fn digit(table: &[u8; 256], code: u8) -> u8
     ensures { result ≡ get_or table.now code 0 }
 {
     table[code as usize]
 }
 
+// The same in the table where it lies: nothing of it is copied.
+pub fn value_of(code: u8) -> u8
+    ensures { result ≡ get_or digits code 0 }
+{
+    digit(&DIGITS, code)
+}
+
 // The digit that stands for a value: a small letter from ten on. 0, which is none, for a value that is no digit's.
+#[tactic(auto, unfolding(crate::specs::Digits::letter_of))]
 pub fn letter_of(value: u8) -> u8
     ensures { result ≡ letter_of value }
 {
-    if value < 10 {
-        return 0x30 + value;
+    match value {
+        0..=9 => b'0' + value,
+        10..=15 => b'a' + (value - 10),
+        _ => 0,
     }
-    if value < 16 {
-        return 0x61 + (value - 10);
-    }
-    0
 }

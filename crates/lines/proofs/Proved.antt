@@ -7,8 +7,7 @@ use native.Mathlib.Nat.{add-zero}
 use native.Mathlib.Omega.{arith}
 use borrow.Author.Tests.{eqb-true, eq-eqb, ne_eqb}
 use lib.ListN.{length, get_or}
-use Rattle.lines.specs.declared.Stop.{Stop}
-use Rattle.lines.specs.Reading.{digit, good_stop, fault, is_good, has_at, mark_after, word_at, word_after}
+use Rattle.lines.specs.Reading.{Stop, digit, good_stop, fault, is_good, has_at, mark_after, word_at, word_after}
 use Rattle.lines.specs.Fields.{good_digest, digest_fault, digit_at, pair_at, field_after, digest_from, digest_at, digest_after}
 use Rattle.lines.specs.Lines.{no_entry}
 use Rattle.rules.specs.Rules.{zero_record}
@@ -16,6 +15,7 @@ use Rattle.lines.specs.Promises.{LettersBefore, DigitsBefore, bytes_at, AfterFau
 use Rattle.lines.proofs.Marks.{has_below, has_byte, has_in, mark_there, mark_missing, mark_stays, word_stays}
 use Rattle.lines.proofs.Places.{field_none, field_open, field_closed, field_stays}
 use Rattle.lines.proofs.Digests.{pair_none, pair_one, pair_both, digest_stays}
+use Rattle.lines.proofs.Once.{stop_once, field_once, digest_once, line_once}
 use Rattle.lines.proofs.Whole.{line_bad, line_good, header_is}
 
 -- what holds from a place on holds one further on, from the place behind it
@@ -94,17 +94,25 @@ proved =
     record {
       wants = refl;
       bytes = refl;
+      wanted_told = refl;
+      good_told = λ next value bytes e. record { stop = refl; field = refl; digest = refl; line = refl };
+      fault_told = λ f. record { stop = refl; field = refl; digest = refl; line = refl };
+      stop_once = stop_once;
+      field_once = field_once;
+      digest_once = digest_once;
+      line_once = line_once;
       good_stop_lem = λ next. refl;
       is_good_lem = λ s. (eqb-true s.wanted 0, eq-eqb s.wanted 0);
+      after_good = λ text at. record { mark = λ byte what. refl; letters = λ bytes what. refl; field = λ ending. refl; digest = refl };
       after_fault = after_fault;
       has = λ text at byte. (λ h. (has_below text at byte h, has_byte text at byte h), λ h. has_in text at byte h.0 ∙ eq-eqb _ _ h.1);
       mark_there = mark_there;
       mark_wanted = mark_missing;
       word_there = λ text at letters what h. words_there text letters at what h;
       word_wanted = λ text at letters what i l h missing. words_wanted text letters at what i l h missing;
-      field_there = λ text at ending found there. sym (field_closed text at ending _ refl found there);
-      ending_wanted = λ text at ending found missing. sym (field_open text at ending _ refl found missing);
-      number_wanted = λ text at ending none. sym (field_none text at ending _ refl none);
+      field_there = λ text at ending n found there. field_closed text at ending n found there;
+      ending_wanted = λ text at ending n found missing. field_open text at ending n found missing;
+      number_wanted = λ text at ending none. field_none text at ending none;
       digit_at_lem = λ text at. refl;
       digest_there = λ text at h. digits_there 32 text at [] h;
       digit_wanted = λ text at i l h missing. digits_wanted 32 i text at [] l h missing;

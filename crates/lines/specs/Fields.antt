@@ -1,11 +1,21 @@
 -- The fields of a line: numbers and digests.
-use Rattle.std.specs.Prelude.{ℕ, zero, suc, ◌+◌, ◌*◌, List, [], ◌∷◌, ◌++◌, Bool, cond, ltb, get_or, replicate}
+use Rattle.std.specs.Prelude.{ℕ, zero, suc, ◌+◌, ◌*◌, List, [], ◌∷◌, ◌++◌, Bool, cond, ltb, get_or, replicate, Option, Some, None, Result, Ok, Err}
 use Rattle.hex_digits.specs.Digits.{digit_of}
 use Rattle.decimal.specs.Reading.{numeral_at}
-use Rattle.lines.specs.declared.Stop.{Stop}
-use Rattle.lines.specs.declared.Field.{Field}
-use Rattle.lines.specs.declared.DigestField.{DigestField}
-use Rattle.lines.specs.Reading.{number, separator, digit, good_stop, fault, is_good, has_at}
+use Rattle.decimal.specs.declared.Numeral.{Numeral}
+use Rattle.lines.specs.declared.Fault.{Fault}
+use Rattle.lines.specs.declared.Read.{Read}
+use Rattle.lines.specs.declared.Wanted.TheVariants
+use Rattle.lines.specs.Reading.{Stop, number, separator, digit, good_stop, fault, is_good, has_at, fault_of}
+
+-- what a number's or a digest's step answers: where it stopped, and what it read
+pub record Field : Type 0 where
+  pub stop : Stop
+  pub value : ℕ
+
+pub record DigestField : Type 0 where
+  pub stop : Stop
+  pub digest : List ℕ
 
 -- a field's value, and the place after it; or what was wanted, and where
 abbrev pub good_field : (value next : ℕ) → Field
@@ -15,12 +25,13 @@ abbrev pub field_fault : Stop → Field
 field_fault stop = record { stop = stop; value = 0 }
 
 -- a number and the byte that ends its field
+unfoldable pub field_behind : (text : List ℕ) (at ending : ℕ) → Option Numeral → Field
+field_behind text at ending None = field_fault (fault number at)
+field_behind text at ending (Some n) =
+    cond (has_at text n.next ending) (good_field n.value (n.next + 1)) (field_fault (fault separator n.next))
+
 unfoldable pub field_at : (text : List ℕ) (at ending : ℕ) → Field
-field_at text at ending =
-    let n = numeral_at text at in
-    cond n.found
-    (cond (has_at text n.at ending) (good_field n.value (n.at + 1)) (field_fault (fault separator n.at)))
-    (field_fault (fault number n.at))
+field_at text at ending = field_behind text at ending (numeral_at text at)
 
 unfoldable pub field_after : (text : List ℕ) (before : Stop) (ending : ℕ) → Field
 field_after text before ending = cond (is_good before) (field_at text before.at ending) (field_fault before)
@@ -56,3 +67,16 @@ digest_at text at = digest_from 32 text at []
 
 unfoldable pub digest_after : (text : List ℕ) (before : Stop) → DigestField
 digest_after text before = cond (is_good before) (digest_at text before.at) (digest_fault before)
+
+-- what the code's steps answer
+abbrev pub field_of : Result (Read ℕ) Fault → Field
+field_of (Ok r) = good_field r.value r.next
+field_of (Err f) = field_fault (fault_of f)
+
+abbrev pub digest_of : Result (Read (List ℕ)) Fault → DigestField
+digest_of (Ok r) = good_digest r.value r.next
+digest_of (Err f) = digest_fault (fault_of f)
+
+-- one digit of a digest
+unfoldable pub digit_read : (text : List ℕ) (at : ℕ) → Result ℕ Fault
+digit_read text at = cond (is_digit_at text at) (Ok (digit_at text at)) (Err (record { wanted = TheVariants.Digit; at = at }))

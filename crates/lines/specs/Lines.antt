@@ -1,12 +1,16 @@
 -- A sheet's lines: document 01, "The rank sheet".
-use Rattle.std.specs.Prelude.{ℕ, List, [], ◌∷◌, cond}
+use Rattle.std.specs.Prelude.{ℕ, List, [], ◌∷◌, cond, Result, Ok, Err}
 use Rattle.rules.specs.Rules.{zero_record}
-use Rattle.lines.specs.declared.Stop.{Stop}
-use Rattle.lines.specs.declared.Field.{Field}
 use Rattle.lines.specs.declared.Entry.{Entry}
-use Rattle.lines.specs.declared.NoteLine.{NoteLine}
-use Rattle.lines.specs.Reading.{word, separator, tab, lf, good_stop, is_good, mark_after, word_after}
-use Rattle.lines.specs.Fields.{field_after, digest_after}
+use Rattle.lines.specs.declared.Fault.{Fault}
+use Rattle.lines.specs.declared.Read.{Read}
+use Rattle.lines.specs.Reading.{Stop, word, separator, tab, lf, good_stop, is_good, mark_after, word_after, fault_of}
+use Rattle.lines.specs.Fields.{Field, field_after, digest_after}
+
+-- what reading a note line answers: where it stopped, and what the line says
+pub record NoteLine : Type 0 where
+  pub stop : Stop
+  pub entry : Entry
 
 -- a note line's entry, and the place after the line; or what was wanted, and where
 unfoldable pub no_entry : Entry
@@ -17,6 +21,11 @@ good_line entry next = record { stop = good_stop next; entry = entry }
 
 abbrev pub line_fault : Stop → NoteLine
 line_fault stop = record { stop = stop; entry = no_entry }
+
+-- what the code answers of a note line
+abbrev pub line_of : Result (Read Entry) Fault → NoteLine
+line_of (Ok r) = good_line r.value r.next
+line_of (Err f) = line_fault (fault_of f)
 
 -- "note, length in bytes, loop start, loop end (frames), digest"
 unfoldable pub note_line : (text : List ℕ) (at : ℕ) → NoteLine

@@ -1,13 +1,15 @@
 -- What each step of reading answers: where it stops, and what it wanted there. All of it is proved in proofs/Proved.antt.
-use Rattle.std.specs.Prelude.{ℕ, zero, suc, ◌+◌, ◌*◌, ◌<◌, ◌≤◌, ◌≡◌, ◌↔◌, List, [], ◌∷◌, true, false, length, get_or, replicate}
+use Rattle.std.specs.Prelude.{ℕ, zero, suc, ◌+◌, ◌*◌, ◌<◌, ◌≤◌, ◌≡◌, ◌↔◌, List, [], ◌∷◌, true, false, length, get_or, replicate, Some, None, Result, Ok, Err}
 use Rattle.hex_digits.specs.Digits.{digit_of}
 use Rattle.decimal.specs.Reading.{numeral_at}
-use Rattle.lines.specs.declared.Stop.{Stop}
-use Rattle.lines.specs.declared.Field.{Field}
-use Rattle.lines.specs.declared.DigestField.{DigestField}
-use Rattle.lines.specs.Reading.{nothing, word, number, separator, digit, tab, lf, good_stop, is_good, has_at, mark_after, word_after}
-use Rattle.lines.specs.Fields.{digit_at, field_after, digest_after}
-use Rattle.lines.specs.Lines.{note_line, header_line, edition1}
+use Rattle.decimal.specs.declared.Numeral.{Numeral}
+use Rattle.lines.specs.declared.Entry.{Entry}
+use Rattle.lines.specs.declared.Fault.{Fault}
+use Rattle.lines.specs.declared.Read.{Read}
+use Rattle.lines.specs.declared.Wanted.TheVariants
+use Rattle.lines.specs.Reading.{Stop, number_by, stop_of, nothing, word, number, separator, digit, tab, lf, good_stop, is_good, has_at, mark_at, word_at, mark_after, word_after}
+use Rattle.lines.specs.Fields.{DigestField, Field, field_of, digest_of, digit_at, field_at, digest_at, field_after, digest_after}
+use Rattle.lines.specs.Lines.{line_of, note_line, header_line, edition1}
 
 -- all was well up to a place
 abbrev pub good_at : (next : ℕ) → Stop
@@ -65,12 +67,49 @@ pub record AfterFault (text : List ℕ) (before : Stop) : Type 0 where
   pub field : (ending : ℕ) → field_after text before ending ≡ record { stop = before; value = 0 }
   pub digest : digest_after text before ≡ record { stop = before; digest = replicate 32 0 }
 
+-- behind a step that was well each is the step at the next place
+pub record AfterGood (text : List ℕ) (at : ℕ) : Type 0 where
+  pub mark : (byte what : ℕ) → mark_after text (good_at at) byte what ≡ mark_at text at byte what
+  pub letters : (bytes : List ℕ) (what : ℕ) → word_after text (good_at at) bytes what ≡ word_at text at bytes what
+  pub field : (ending : ℕ) → field_after text (good_at at) ending ≡ field_at text at ending
+  pub digest : digest_after text (good_at at) ≡ digest_at text at
+
+-- a step of the code that was well, as the definitions tell it
+pub record GoodTold (next value : ℕ) (bytes : List ℕ) (e : Entry) : Type 0 where
+  pub stop : stop_of (Ok next) ≡ good_at next
+  pub field : field_of (Ok (record { value = value; next = next })) ≡ record { stop = good_at next; value = value }
+  pub digest : digest_of (Ok (record { value = bytes; next = next })) ≡ record { stop = good_at next; digest = bytes }
+  pub line : line_of (Ok (record { value = e; next = next })) ≡ record { stop = good_at next; entry = e }
+
+-- and one that had a fault: what it wanted, where, and no value
+pub record FaultTold (f : Fault) : Type 0 where
+  pub stop : stop_of (Err f) ≡ record { wanted = number_by f.wanted; at = f.at }
+  pub field : field_of (Err f) ≡ record { stop = record { wanted = number_by f.wanted; at = f.at }; value = 0 }
+  pub digest : digest_of (Err f) ≡ record { stop = record { wanted = number_by f.wanted; at = f.at }; digest = replicate 32 0 }
+  pub line :
+      line_of (Err f)
+      ≡ record {
+        stop = record { wanted = number_by f.wanted; at = f.at };
+        entry = record { note = 0; sample = record { length = 0; loop_start = 0; loop_end = 0; digest = replicate 32 0 } };
+      }
+
 pub record Promises : Type 0 where
   -- what a step can want; "tab (9)", "LF (10)", and the figure 1
   pub wants : (nothing ∷ word ∷ number ∷ separator ∷ digit ∷ []) ≡ (0 ∷ 1 ∷ 2 ∷ 3 ∷ 4 ∷ [])
   pub bytes : (tab ∷ lf ∷ edition1 ∷ []) ≡ (9 ∷ 10 ∷ 49 ∷ [])
+  -- what the code's steps answer is told as the definitions answer, and two answers that are told alike are one
+  pub wanted_told :
+      number_by TheVariants.Word ∷ number_by TheVariants.Number ∷ number_by TheVariants.Separator ∷ number_by TheVariants.Digit ∷ []
+      ≡ 1 ∷ 2 ∷ 3 ∷ 4 ∷ []
+  pub good_told : (next value : ℕ) (bytes : List ℕ) (e : Entry) → GoodTold next value bytes e
+  pub fault_told : (f : Fault) → FaultTold f
+  pub stop_once : (x y : Result ℕ Fault) → stop_of x ≡ stop_of y → x ≡ y
+  pub field_once : (x y : Result (Read ℕ) Fault) → field_of x ≡ field_of y → x ≡ y
+  pub digest_once : (x y : Result (Read (List ℕ)) Fault) → digest_of x ≡ digest_of y → x ≡ y
+  pub line_once : (x y : Result (Read Entry) Fault) → line_of x ≡ line_of y → x ≡ y
   pub good_stop_lem : (next : ℕ) → good_stop next ≡ good_at next
   pub is_good_lem : (s : Stop) → (is_good s ≡ true) ↔ (s.wanted ≡ 0)
+  pub after_good : (text : List ℕ) (at : ℕ) → AfterGood text at
   pub after_fault : (text : List ℕ) (before : Stop) → (before.wanted ≡ 0 → ⊥) → AfterFault text before
   -- a byte of the text
   pub has : (text : List ℕ) (at byte : ℕ) → (has_at text at byte ≡ true) ↔ ((at < length text) × (get_or text at 0 ≡ byte))
@@ -89,14 +128,14 @@ pub record Promises : Type 0 where
       → word_after text (good_at at) letters what ≡ record { wanted = what; at = at + i }
   -- a field: a number and the byte that ends it, or what of the two is wanted
   pub field_there :
-      (text : List ℕ) (at ending : ℕ) → (numeral_at text at).found ≡ true → has_at text (numeral_at text at).at ending ≡ true
-      → field_after text (good_at at) ending ≡ record { stop = good_at ((numeral_at text at).at + 1); value = (numeral_at text at).value }
+      (text : List ℕ) (at ending : ℕ) (n : Numeral) → numeral_at text at ≡ Some n → has_at text n.next ending ≡ true
+      → field_after text (good_at at) ending ≡ record { stop = good_at (n.next + 1); value = n.value }
   pub ending_wanted :
-      (text : List ℕ) (at ending : ℕ) → (numeral_at text at).found ≡ true → has_at text (numeral_at text at).at ending ≡ false
-      → field_after text (good_at at) ending ≡ record { stop = record { wanted = 3; at = (numeral_at text at).at }; value = 0 }
+      (text : List ℕ) (at ending : ℕ) (n : Numeral) → numeral_at text at ≡ Some n → has_at text n.next ending ≡ false
+      → field_after text (good_at at) ending ≡ record { stop = record { wanted = 3; at = n.next }; value = 0 }
   pub number_wanted :
-      (text : List ℕ) (at ending : ℕ) → (numeral_at text at).found ≡ false
-      → field_after text (good_at at) ending ≡ record { stop = record { wanted = 2; at = (numeral_at text at).at }; value = 0 }
+      (text : List ℕ) (at ending : ℕ) → numeral_at text at ≡ None
+      → field_after text (good_at at) ending ≡ record { stop = record { wanted = 2; at = at }; value = 0 }
   -- "A digest is 64 characters": all are digits, or the first that is not is wanted
   pub digit_at_lem : (text : List ℕ) (at : ℕ) → digit_at text at ≡ digit_of (get_or text at 0)
   pub digest_there :

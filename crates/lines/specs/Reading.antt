@@ -1,8 +1,15 @@
 -- Reading a rank sheet's text by place: document 01, "The rank sheet". Each step says where it stopped and what it wanted there: the next
 -- place and nothing where all was well, else the fault's place. A step goes on where the one before it stopped; behind a fault it answers
 -- that fault.
-use Rattle.std.specs.Prelude.{ℕ, ◌+◌, List, [], ◌∷◌, Bool, cond, ◌&&◌, ltb, eqb, length, get_or}
-use Rattle.lines.specs.declared.Stop.{Stop}
+use Rattle.std.specs.Prelude.{ℕ, ◌+◌, List, [], ◌∷◌, Bool, cond, ◌&&◌, ltb, eqb, length, get_or, Result, Ok, Err}
+use Rattle.lines.specs.declared.Fault.{Fault}
+use Rattle.lines.specs.declared.Wanted.{Wanted}
+use Rattle.lines.specs.declared.Wanted.TheVariants
+
+-- where a step stopped, and what it wanted there: nothing more, and the next place; or the place of its fault
+pub record Stop : Type 0 where
+  pub wanted : ℕ
+  pub at : ℕ
 
 -- what a step can want: nothing more; the word RANK or the edition; a number; a tab or line end; a digest's digit
 abbrev pub nothing : ℕ
@@ -55,3 +62,17 @@ mark_after text before mark what = cond (is_good before) (mark_at text before.at
 
 unfoldable pub word_after : (text : List ℕ) (before : Stop) (letters : List ℕ) (what : ℕ) → Stop
 word_after text before letters what = cond (is_good before) (word_at text before.at letters what) before
+
+-- what the code's steps answer, as a stop: what each wants, by its number
+abbrev pub number_by : Wanted → ℕ
+number_by TheVariants.Word = word
+number_by TheVariants.Number = number
+number_by TheVariants.Separator = separator
+number_by TheVariants.Digit = digit
+
+abbrev pub fault_of : Fault → Stop
+fault_of f = fault (number_by f.wanted) f.at
+
+abbrev pub stop_of : Result ℕ Fault → Stop
+stop_of (Ok next) = good_stop next
+stop_of (Err f) = fault_of f

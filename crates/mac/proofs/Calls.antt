@@ -1,21 +1,26 @@
 -- The one call, as the code decides it. Assumes nothing.
-use mathlib.Core.Path.{◌≡◌, sym, ap, ◌∙◌}
+use mathlib.Core.Path.{◌≡◌, refl, sym, ap, ◌∙◌}
 use mathlib.Core.Logic.{inl, inr}
 use Prim.Native.Nat.{ℕ, ◌+◌, ◌≤◌, ◌<◌}
 use native.Mathlib.Omega.{arith}
 use mathlib.Core.List.{List, ◌++◌}
-use lib.ListN.{length, length-append}
+use lib.ListN.{length, replicate, length-append}
 use borrow.Author.Tests.{lt-ltb, le-ltb}
 use Rattle.truth.proofs.Tests.{below_or_not}
+use Rattle.std.specs.Prelude.{Ok, Err}
 use Rattle.refusal.specs.Table.{accepted, too_long}
+use Rattle.refusal.specs.declared.Refusal.{Refusal}
+use Rattle.refusal.proofs.Telling.{not_accepted}
 use Rattle.units.specs.Units.{longest}
 use Rattle.hash.specs.Sm3.{sm3}
 use Rattle.hash.specs.Digests.{no_digest, digest}
+use Rattle.hash.specs.Told.{told_digest}
 use Rattle.hash.specs.declared.Digest.{Digest}
 use Rattle.hash.proofs.Cutting.{digest_passes, digest_sm3}
 use Rattle.hash.proofs.Refusing.{length_sm3}
-use Rattle.mac.specs.Hmac.{hmac}
-use Rattle.mac.specs.Codes.{code_of}
+use Rattle.mac.specs.Hmac.{◌⊕◌, ipad, opad, hmac}
+use Rattle.mac.specs.Codes.{block_of, code_of}
+use Rattle.mac.proofs.Blocks.{blocked, not_blocked}
 use Rattle.mac.proofs.States.{inside, outside, length_inside, length_outside}
 
 module _ (key m : List ℕ) where
@@ -57,3 +62,22 @@ module _ (key m : List ℕ) where
               rw b (digest_sm3 (outside key ++ sm3 (inside key ++ m)) (omega (arith, length-append (outside key) (sm3 (inside key ++ m)), length_outside key))
               ∙ sym (code_is fits short))
         ]
+
+-- as the two calls answer
+module _ (key m : List ℕ) where
+  pub key_refused : (r : Refusal) → Err r ≡ block_of key → told_digest (Err r) ≡ code_of key m
+  key_refused r e = let b = not_blocked key r e in rw b.1 (sym (key_passes key m b.0))
+
+  module _ (block : List ℕ) (e : Ok block ≡ block_of key) where
+    pub inside_refused : (r : Refusal) → told_digest (Err r) ≡ digest ((block ⊕ replicate 64 0x36) ++ m) → told_digest (Err r) ≡ code_of key m
+    unfolding no_digest ipad
+    inside_refused r f =
+        let b = blocked key block e in
+        message_refused key m b.fits (told_digest (Err r)) (f ∙ rw b.is) (not_accepted r)
+
+    pub outside_codes : (d : List ℕ) → told_digest (Ok d) ≡ digest ((block ⊕ replicate 64 0x36) ++ m)
+        → digest ((block ⊕ replicate 64 0x5c) ++ d) ≡ code_of key m
+    unfolding ipad opad
+    outside_codes d f =
+        let b = blocked key block e in
+        rw b.is (outer_codes key m b.fits (told_digest (Ok d)) (f ∙ rw b.is) refl)

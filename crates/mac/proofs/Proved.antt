@@ -11,11 +11,12 @@ use Rattle.hash.proofs.Taking.{total_afterPiece, afterPiece_nil}
 use Rattle.mac.specs.Hmac.{ipad, opad, hmac}
 use Rattle.mac.specs.Codes.{started, start, update, finish}
 use Rattle.mac.specs.Cutting.{after_all_of, numbers_of}
-use Rattle.mac.specs.Promises.{Promises, IsHmac, InOrder, AnyCuttingOf, PastLongest, OneCall, PieceByPiece, EmptyPiece, AtLongest, Cut}
+use Rattle.mac.specs.Promises.{Promises, key_state, IsHmac, InOrder, AnyCuttingOf, PastLongest, OneCall, PieceByPiece, EmptyPiece, AtLongest, Cut}
 use Rattle.mac.specs.declared.Code.{Code}
 use Rattle.mac.specs.declared.CodeUpdated.{CodeUpdated}
 use Rattle.mac.proofs.Blocks.{key_block_lem, xored}
-use Rattle.mac.proofs.States.{parts_in_order, in_order_parts, starts_in_order, start_takes, total_started, inOrder_started, inOrder_taken, update_takes, update_passes}
+use Rattle.mac.proofs.Telling.{telling, all_updated}
+use Rattle.mac.proofs.States.{started_blocks, parts_in_order, in_order_parts, starts_in_order, start_takes, total_started, inOrder_started, inOrder_taken, update_takes, update_passes}
 use Rattle.mac.proofs.Cutting.{fed, all_pieces, finish_started}
 use Rattle.mac.proofs.Calls.{code_is}
 use Rattle.mac.proofs.Tables.{length_hmac, tables, state_compared, message_compared}
@@ -70,6 +71,10 @@ cut : (updating : Code → List ℕ → CodeUpdated) (c : Code) (piece : List �
 unfolding after_all_of numbers_of
 cut updating c piece pieces = record { after_none = refl; after_more = refl; number_none = refl; number_more = refl }
 
+empty_state : started [] ≡ key_state []
+unfolding ipad opad
+empty_state = started_blocks []
+
 pub proved : Promises
 proved =
     record {
@@ -90,4 +95,7 @@ proved =
       state_compared = state_compared;
       message_compared = message_compared;
       cut = cut;
+      telling = telling;
+      all_updated = all_updated;
+      empty_state = empty_state;
     }

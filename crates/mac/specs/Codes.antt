@@ -1,6 +1,8 @@
 -- A code state and its calls: 4/13, "fed by pieces as the hash is, with comparison". "Order 9, 10, 11".
-use Rattle.std.specs.Prelude.{ℕ, ◌+◌, List, [], Bool, cond, ◌&&◌, leb, ltb, eqb, length}
+use Rattle.std.specs.Prelude.{ℕ, ◌+◌, List, [], Bool, cond, ◌&&◌, leb, ltb, eqb, length, Result, Ok, Err}
 use Rattle.refusal.specs.Table.{accepted, state_not_in_order, too_long}
+use Rattle.refusal.specs.declared.Refusal.{Refusal}
+use Rattle.refusal.specs.declared.Refusal.TheVariants
 use Rattle.units.specs.Units.{longest}
 use Rattle.hash.specs.State.{fresh, in_order as hash_in_order}
 use Rattle.hash.specs.Update.{update as hash_update}
@@ -10,6 +12,10 @@ use Rattle.hash.specs.declared.Compared.{Compared}
 use Rattle.mac.specs.Hmac.{◌⊕◌, ipad, opad, key_block, hmac}
 use Rattle.mac.specs.declared.Code.{Code}
 use Rattle.mac.specs.declared.CodeUpdated.{CodeUpdated}
+
+-- a key's block, or "10 for a key above 2^61 - 1 bytes"
+unfoldable pub block_of : (key : List ℕ) → Result (List ℕ) Refusal
+block_of key = cond (ltb longest (length key)) (Err TheVariants.TooLong) (Ok (key_block key))
 
 -- a key's state: the inner has taken K XOR ipad, the outer K XOR opad
 unfoldable pub started : (key : List ℕ) → Code

@@ -1,8 +1,10 @@
 -- What is promised of HMAC and of the code state, over the definitions that the functions' contracts cite. Quotations are those of 4/13,
 -- where no other paper is named.
 use Rattle.std.specs.Prelude.{◌≡◌, ◌↔◌, ℕ, ◌+◌, ◌-◌, ◌≤◌, ◌<◌, true, false, List, [], ◌∷◌, ◌++◌, length, get_or, replicate}
+use Rattle.std.specs.Prelude.{Result, Ok, Err}
 use Rattle.std.specs.Int.Bits.{bit_xor}
-use Rattle.refusal.specs.Table.{accepted, too_long}
+use Rattle.refusal.specs.Table.{accepted, too_long, number_by}
+use Rattle.refusal.specs.declared.Refusal.{Refusal}
 use Rattle.units.specs.Units.{longest}
 use Rattle.standard.specs.Standard.{IV, folded}
 use Rattle.hash.specs.Sm3.{sm3}
@@ -14,8 +16,9 @@ use Rattle.hash.specs.declared.Hash.{Hash}
 use Rattle.hash.specs.declared.Digest.{Digest}
 use Rattle.hash.specs.declared.Compared.{Compared}
 use Rattle.mac.specs.Hmac.{◌⊕◌, key_block, hmac}
-use Rattle.mac.specs.Codes.{start, in_order, update, finish, code_of, compare_state, compare_message}
+use Rattle.mac.specs.Codes.{started as started_state, start, in_order, update, finish, code_of, compare_state, compare_message}
 use Rattle.mac.specs.Cutting.{after_all_of, numbers_of}
+use Rattle.mac.specs.Told.{code_updated_of}
 use Rattle.mac.specs.declared.Code.{Code}
 use Rattle.mac.specs.declared.CodeUpdated.{CodeUpdated}
 
@@ -174,6 +177,11 @@ pub record Cut (updating : Code → List ℕ → CodeUpdated) (c : Code) (piece 
   pub number_none : numbers_of updating c [] ≡ []
   pub number_more : numbers_of updating c (piece ∷ pieces) ≡ (updating c piece).number ∷ numbers_of updating (updating c piece).state pieces
 
+-- what a C host is told of a call on a state: its number, and the state that it gives, or the one that stands where it is refused
+pub record Telling (instead after : Code) (refusal : Refusal) : Type 0 where
+  pub updated : code_updated_of instead (Ok after) ≡ record { number = 0; state = after }
+  pub not_updated : code_updated_of instead (Err refusal) ≡ record { number = number_by refusal; state = instead }
+
 pub record Promises : Type 0 where
   pub key_block_lem : (key : List ℕ) → KeyBlock key
   pub xored : (block : List ℕ) (pad : ℕ) → length block ≡ 64 → Xored block pad
@@ -193,3 +201,7 @@ pub record Promises : Type 0 where
   pub state_compared : StateCompared
   pub message_compared : MessageCompared
   pub cut : (updating : Code → List ℕ → CodeUpdated) (c : Code) (piece : List ℕ) (pieces : List (List ℕ)) → Cut updating c piece pieces
+  pub telling : (instead after : Code) (refusal : Refusal) → Telling instead after refusal
+  -- so a host is told all that a call answered; of a start, instead of a state there is the empty key's
+  pub all_updated : (c : Code) (x y : Result Code Refusal) → code_updated_of c x ≡ code_updated_of c y → x ≡ y
+  pub empty_state : started_state [] ≡ key_state []

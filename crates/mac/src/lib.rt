@@ -1,16 +1,16 @@
 // HMAC over SM3, as RFC 2104 defines it: a code of 32 bytes for a key and a message.
 #![tactic(auto)]
 
-ghost use Rattle.std.specs.Prelude.{◌≡◌, ◌≤◌, length, replicate};
+ghost use Rattle.std.specs.Prelude.{◌≡◌, [], replicate};
 ghost use Rattle.hash.specs.State.{fresh};
 ghost use Rattle.hash.specs.Update.{update as hash_update};
-ghost use Rattle.units.specs.Units.{longest};
-ghost use Rattle.mac.specs.Hmac.{◌⊕◌, key_block};
-ghost use Rattle.mac.specs.Codes.{started, start, in_order, update, finish, code_of, compare_state, compare_message};
+ghost use Rattle.hash.specs.Told.{told_digest, compared_of};
+ghost use Rattle.mac.specs.Hmac.{◌⊕◌};
+ghost use Rattle.mac.specs.Codes.{block_of, started, start, in_order, update, finish, code_of, compare_state, compare_message};
+ghost use Rattle.mac.specs.Told.{code_updated_of};
 
-use hash::{Compared, Digest, Hash};
-use refusal::{ACCEPTED, STATE_NOT_IN_ORDER, TOO_LONG};
-use units::LONGEST;
+use hash::Hash;
+use refusal::{ACCEPTED, Refusal};
 
 // A code state is two hash states: the inner has taken the key's block and then the message, the outer the key's other block.
 #[repr(C)]
@@ -18,14 +18,6 @@ use units::LONGEST;
 pub struct Code {
     pub inner: Hash,
     pub outer: Hash,
-}
-
-// What start and update answer.
-#[repr(C)]
-#[derive(Clone, Copy)]
-pub struct CodeUpdated {
-    pub number: u8,
-    pub state: Code,
 }
 
 const IPAD: u8 = 0x36;
@@ -37,10 +29,8 @@ fn xored(block: [u8; 64], pad: u8) -> [u8; 64]
     ensures { result ≡ block ⊕ replicate 64 pad }
 {
     let mut mixed = block;
-    let mut i = 0;
-    while i < 64 {
-        mixed[i] = block[i] ^ pad;
-        i += 1;
+    for byte in &mut mixed {
+        *byte ^= pad;
     }
     mixed
 }
@@ -52,50 +42,34 @@ fn after_block(block: [u8; 64]) -> Hash
     Hash {
         words: folding::fold(Hash::START, &block),
         total: 64,
-        tail: [0; Hash::BLOCK],
+        ..Hash::fresh()
     }
 }
 
-// The key with zeros behind it; of one over 64 bytes, its digest.
-fn key_block(key: &[u8]) -> [u8; 64]
-    requires { length key.now ≤ longest }
-    ensures { result ≡ key_block key.now }
+// The key with zeros behind it; of one over 64 bytes, its digest. Refusal 10, of one too long for a digest.
+#[tactic(auto, using(crate::proofs::Blocks::blocks))]
+fn key_block(key: &[u8]) -> Result<[u8; 64], Refusal>
+    ensures { result ≡ block_of key.now }
 {
     let mut block = [0u8; Hash::BLOCK];
     if key.len() <= Hash::BLOCK {
         buffers::copy(&mut block, 0, key);
-        return block;
+    } else {
+        let digest = hash::digest_of(key)?;
+        buffers::copy(&mut block, 0, &digest);
     }
-    let hashed = hash::digest_of(key);
-    let bytes = hashed.bytes;
-    buffers::copy(&mut block, 0, &bytes);
-    block
+    Ok(block)
 }
 
-fn started(key: &[u8]) -> Code
-    requires { length key.now ≤ longest }
-    ensures { result ≡ started key.now }
+// From a key of any length, the empty one too. Refusal 10.
+pub fn start(key: &[u8]) -> Result<Code, Refusal>
+    ensures { code_updated_of (started []) result ≡ start key.now }
 {
-    let block = key_block(key);
-    let inner = after_block(xored(block, IPAD));
-    let outer = after_block(xored(block, OPAD));
-    Code { inner, outer }
-}
-
-// From a key of any length, the empty one too. Refusal 10: then it is the empty key's state.
-pub fn start(key: &[u8]) -> CodeUpdated
-    ensures { result ≡ start key.now }
-{
-    if LONGEST < key.len() as u64 {
-        return CodeUpdated {
-            number: TOO_LONG,
-            state: started(&key[..0]),
-        };
-    }
-    CodeUpdated {
-        number: ACCEPTED,
-        state: started(key),
-    }
+    let block = key_block(key)?;
+    Ok(Code {
+        inner: after_block(xored(block, IPAD)),
+        outer: after_block(xored(block, OPAD)),
+    })
 }
 
 impl Code {
@@ -103,79 +77,92 @@ impl Code {
     pub fn in_order(self) -> bool
         ensures { result ≡ in_order self }
     {
-        let inner = self.inner;
-        let outer = self.outer;
-        inner.in_order() & outer.in_order() & (64 <= inner.total) & (outer.total == 64)
+        self.inner.in_order()
+            & self.outer.in_order()
+            & (64 <= self.inner.total)
+            & (self.outer.total == 64)
     }
 
     // Refusals 9 and 10. The inner's total has the key's block in it, so the inner's own 10 is the message's.
-    pub fn update(self, piece: &[u8]) -> CodeUpdated
-        ensures { result ≡ update self piece.now }
+    pub fn update(self, piece: &[u8]) -> Result<Code, Refusal>
+        ensures { code_updated_of self result ≡ update self piece.now }
     {
         if !self.in_order() {
-            return CodeUpdated {
-                number: STATE_NOT_IN_ORDER,
-                state: self,
-            };
+            return Err(Refusal::StateNotInOrder);
         }
-        let inner = self.inner;
-        let outer = self.outer;
-        let taken = inner.update(piece);
-        let after = taken.state;
-        CodeUpdated {
-            number: taken.number,
-            state: Code {
-                inner: after,
-                outer,
-            },
-        }
+        let inner = self.inner.update(piece)?;
+        Ok(Code { inner, ..self })
     }
 
     // Refusal 9. The state is as it was: it came by value.
-    pub fn finish(self) -> Digest
-        ensures { result ≡ finish self }
+    pub fn finish(self) -> Result<[u8; 32], Refusal>
+        ensures { told_digest result ≡ finish self }
     {
-        if !self.in_order() {
-            return hash::no_digest(STATE_NOT_IN_ORDER);
+        let ordered = self.in_order();
+        if !ordered {
+            return Err(Refusal::StateNotInOrder);
         }
-        let inner = self.inner;
-        let outer = self.outer;
-        let inside = inner.finish();
-        let bytes = inside.bytes;
-        let taken = outer.update(&bytes);
-        let after = taken.state;
-        after.finish()
+        let inside = self.inner.finish()?;
+        self.outer.update(&inside)?.finish()
     }
 
     // Finish, held against an expected code: refusals 9 and 11.
-    pub fn matches(self, expected: &[u8]) -> Compared
-        ensures { result ≡ compare_state self expected.now }
+    pub fn matches(self, expected: &[u8]) -> Result<bool, Refusal>
+        ensures { compared_of result ≡ compare_state self expected.now }
     {
-        hash::against(self.finish(), expected)
+        hash::compare(self.finish(), expected)
     }
 }
 
 // One call for a key and a message, by the formula: refusal 10, of the key and then of the message. It keeps no code state on the stack.
-pub fn code_of(key: &[u8], message: &[u8]) -> Digest
-    ensures { result ≡ code_of key.now message.now }
+pub fn code_of(key: &[u8], message: &[u8]) -> Result<[u8; 32], Refusal>
+    ensures { told_digest result ≡ code_of key.now message.now }
 {
-    if LONGEST < key.len() as u64 {
-        return hash::no_digest(TOO_LONG);
-    }
-    let block = key_block(key);
-    let inside = xored(block, IPAD);
-    let inner = hash::digest_of_two(&inside, message);
-    if inner.number != ACCEPTED {
-        return hash::no_digest(inner.number);
-    }
-    let outside = xored(block, OPAD);
-    let bytes = inner.bytes;
-    hash::digest_of_two(&outside, &bytes)
+    let block = key_block(key)?;
+    let inside = hash::digest_of_two(&xored(block, IPAD), message)?;
+    hash::digest_of_two(&xored(block, OPAD), &inside)
 }
 
 // The one call, held against an expected code: refusals 10 and 11.
-pub fn matches(key: &[u8], message: &[u8], expected: &[u8]) -> Compared
-    ensures { result ≡ compare_message key.now message.now expected.now }
+pub fn matches(key: &[u8], message: &[u8], expected: &[u8]) -> Result<bool, Refusal>
+    ensures { compared_of result ≡ compare_message key.now message.now expected.now }
 {
-    hash::against(code_of(key, message), expected)
+    hash::compare(code_of(key, message), expected)
+}
+
+// What a C host is told of start and update.
+#[repr(C)]
+#[derive(Clone, Copy)]
+pub struct CodeUpdated {
+    pub number: u8,
+    pub state: Code,
+}
+
+impl CodeUpdated {
+    // Of a state that a piece was given: refused, the state is as it was.
+    pub fn told(before: Code, answer: Result<Code, Refusal>) -> CodeUpdated
+        ensures { result ≡ code_updated_of before answer }
+    {
+        match answer {
+            Ok(after) => CodeUpdated {
+                number: ACCEPTED,
+                state: after,
+            },
+            Err(refusal) => CodeUpdated {
+                number: refusal.number(),
+                state: before,
+            },
+        }
+    }
+
+    // Of a key: refused, it is the empty key's state.
+    pub fn started(key: &[u8]) -> CodeUpdated
+        ensures { result ≡ start key.now }
+    {
+        let (number, state) = match start(key) {
+            Ok(state) => (ACCEPTED, state),
+            Err(refusal) => (refusal.number(), start(&key[..0]).unwrap()),
+        };
+        CodeUpdated { number, state }
+    }
 }

@@ -20,7 +20,7 @@ use Rattle.padded.specs.Viewing.{view_number}
 use Rattle.padded.specs.Removing.{stated_bits, is_padded, remove_number, remove_part}
 use Rattle.padded.specs.Promises.{Promises, Tailed, PaddedForm}
 use Rattle.padded.proofs.Viewed.{view_long, view_short, view_other, view_past, view_accepts, view_cases, viewed, not_long, not_short, not_other, not_past, not_there}
-use Rattle.padded.proofs.Placed.{in_neither_lem, inside, outside, no_part as no_block, address_inside, address_outside}
+use Rattle.padded.proofs.Placed.{in_neither_lem, inside, outside, no_part as no_block, address_inside, address_outside, place_told}
 use Rattle.padded.proofs.Joined.{block_is, all_blocks}
 use Rattle.padded.proofs.Removed.{accepts, refuses, part_of, no_part, answered, length_within}
 use Rattle.padded.proofs.Forms.{form_padded, form_message, message_short, message_form}
@@ -98,6 +98,9 @@ proved =
       view_inside = inside;
       view_outside = λ s b i e h. (outside s b i e h, in_what_was_lent s b i e h);
       view_nowhere = λ s b i h. sym (in_neither_lem s b i h);
+      place_none = refl;
+      place_some = λ from. (refl, refl);
+      place_told = place_told;
       address_inside = address_inside;
       address_outside = address_outside;
       remover = λ b all. (λ e. has_form b all (accepted_padded b e), λ f. sym (accepts b (form_is_padded b f)));

@@ -1,86 +1,96 @@
 -- The remover: its tests one by one, and what is known where all hold. Assumes nothing.
 use Prim.Native.Nat.{ℕ, ◌+◌, ◌*◌, ◌/◌, ◌%◌, ◌^◌, ◌<◌, ◌≤◌}
 use mathlib.Core.Path.{◌≡◌, refl, sym, ap, ◌∙◌}
-use mathlib.Core.Bool.{Bool, true, false, not, ◌&&◌}
+use mathlib.Core.Bool.{Bool, true, false, ◌&&◌}
 use mathlib.Core.List.{List, []}
 use native.Mathlib.Omega.{arith}
-use borrow.Author.Tests.{lt-ltb, le-ltb, eq-eqb, ne_eqb, eqb-true, ltb-true, not-true, not-false}
+use borrow.Author.Tests.{lt-ltb, le-ltb, eq-eqb, ne_eqb, eqb-true, ltb-true}
 use lib.Dec.{ltb, eqb}
 use lib.ListN.{length, take}
+use Rattle.std.specs.Prelude.{Option, Some, None, cond, is_some}
+use Rattle.std.specs.Option.{unwrap_or}
+use Rattle.std.specs.Bool.{then_some}
 use Rattle.refusal.specs.Table.{accepted, not_padded}
 use Rattle.truth.proofs.Tests.{first, second}
-use Rattle.units.specs.declared.InBytes.{InBytes}
+use Rattle.units.specs.declared.Bits.{Bits}
+use Rattle.units.specs.declared.Bytes.{Bytes}
 use Rattle.units.specs.Units.{bytes_of_bits}
-use Rattle.units.proofs.Exact.{whole, bytes_are, refutes_no}
+use Rattle.units.proofs.Exact.{either, whole, bytes_are}
 use Rattle.padding.specs.Padding.{block_count}
 use Rattle.padded.specs.Removing.{stated_bits, right_count, right_fill, is_padded, remove_number, remove_length, remove_part}
 
+-- how many of the bytes are the message, where they are a padded message
+abbrev pub found : List ℕ → Option ℕ
+found b = cond (is_padded b) (Some (stated_bits b / 8)) None
+
+some_found : (t : Bool) (m : ℕ) → then_some t m ≡ cond t (Some m) None
+some_found true m = refl
+some_found false m = refl
+
 module _ (b : List ℕ) where
-  pub no_bytes : length b ≡ 0 → false ≡ is_padded b
+  pub no_bytes : length b ≡ 0 → is_padded b ≡ false
   unfolding is_padded
   no_bytes h = simp (le-ltb 0 (length b) (omega arith))
 
-  module _ (some : length b ≡ 0 → ⊥) where
-    pub broken_block : (length b % 64 ≡ 0 → ⊥) → false ≡ is_padded b
-    unfolding is_padded
-    broken_block h = simp (lt-ltb 0 (length b) (omega arith), ne_eqb (length b % 64) 0 h)
+  pub broken_block : (length b % 64 ≡ 0 → ⊥) → is_padded b ≡ false
+  unfolding is_padded
+  broken_block h =
+      let some : 0 < length b = omega arith in
+      simp (lt-ltb 0 (length b) some, ne_eqb (length b % 64) 0 h)
 
--- whole blocks, and their stated bits as whole bytes: what the first calls answered
-pub record Stated (b : List ℕ) : Type 0 where
-  pub some : length b ≡ 0 → ⊥
-  pub blocks : length b % 64 ≡ 0
-  pub bits : ℕ
-  pub stated : bits ≡ stated_bits b
-  pub bytes : InBytes
-  pub is : bytes ≡ bytes_of_bits (record { 0 = bits })
-
-module _ (b : List ℕ) (s : Stated b) where
-  some_bytes : 0 < length b
-  some_bytes = let none = s.some in omega arith
-
-  pub broken_byte : not s.bytes.exact ≡ true → false ≡ is_padded b
+-- whole blocks, and the bits that they state
+module _ (b : List ℕ) (some : 0 < length b) (blocks : length b % 64 ≡ 0) (bits : Bits) (stated : bits.0 ≡ stated_bits b) where
+  pub broken_byte : bytes_of_bits bits ≡ None → is_padded b ≡ false
   unfolding is_padded right_count
   broken_byte h =
-      let none = refutes_no (ap (λ a. a.exact) (sym s.is) ∙ not-true s.bytes.exact h) (λ (p : s.bits % 8 ≡ 0). ap (λ a. a.exact) (bytes_are (record { 0 = s.bits }) p)) in
-      simp (lt-ltb 0 (length b) some_bytes, eq-eqb (length b % 64) 0 s.blocks, ne_eqb (stated_bits b % 8) 0 (λ z. none (ap (λ n. n % 8) s.stated ∙ z)))
+      let none : stated_bits b % 8 ≡ 0 → ⊥ = λ z. either (bytes_are bits (ap (λ n. n % 8) stated ∙ z)) h in
+      simp (lt-ltb 0 (length b) some, eq-eqb (length b % 64) 0 blocks, ne_eqb (stated_bits b % 8) 0 none)
 
-  module _ (exact : not s.bytes.exact ≡ false) where
-    even : s.bits % 8 ≡ 0
-    even = whole (record { 0 = s.bits }) (ap (λ a. a.exact) (sym s.is) ∙ not-false s.bytes.exact exact)
+  -- whole bytes
+  module _ (m : Bytes) (is : bytes_of_bits bits ≡ Some m) where
+    even : stated_bits b % 8 ≡ 0
+    even = ap (λ n. n % 8) (sym stated) ∙ whole bits m is
 
-    value : s.bytes.bytes.0 ≡ stated_bits b / 8
-    value = ap (λ a. a.bytes.0) (s.is ∙ bytes_are (record { 0 = s.bits }) even) ∙ ap (λ n. n / 8) s.stated
+    pub value : m.0 ≡ stated_bits b / 8
+    value =
+        let there = sym is ∙ bytes_are bits (whole bits m is) in
+        let same : m ≡ record { 0 = bits.0 / 8 } = cc in
+        ap (λ n. n.0) same ∙ ap (λ n. n / 8) stated
 
-    module _ (n : ℕ) (count : n ≡ block_count s.bytes.bytes.0) where
-      pub count_fits : s.bits < 2 ^ 64 → 64 * n < 2 ^ 64
+    module _ (n : ℕ) (count : n ≡ block_count m.0) where
+      pub count_fits : bits.0 < 2 ^ 64 → 64 * n < 2 ^ 64
       unfolding block_count
-      count_fits h = let known = value in let same = s.stated in omega arith
+      count_fits h = let known = value in let same = stated in omega arith
 
-      pub wrong_count : (64 * n ≡ length b → ⊥) → false ≡ is_padded b
+      pub wrong_count : (64 * n ≡ length b → ⊥) → is_padded b ≡ false
       unfolding is_padded right_count
       wrong_count h =
           simp (
-            lt-ltb 0 (length b) some_bytes,
-            eq-eqb (length b % 64) 0 s.blocks,
-            eq-eqb (stated_bits b % 8) 0 (ap (λ n. n % 8) (sym s.stated) ∙ even),
+            lt-ltb 0 (length b) some,
+            eq-eqb (length b % 64) 0 blocks,
+            eq-eqb (stated_bits b % 8) 0 even,
             ne_eqb (64 * block_count (stated_bits b / 8)) (length b) (λ z. h (ap (λ n. 64 * n) (count ∙ ap block_count value) ∙ z)),
           )
 
       module _ (right : 64 * n ≡ length b) where
-        pub byte_there : s.bytes.bytes.0 + 9 ≤ length b
+        pub byte_there : m.0 + 9 ≤ length b
         unfolding block_count
         byte_there = omega arith
 
-        pub then_fill : right_fill s.bytes.bytes.0 b ≡ is_padded b
+        pub then_fill : is_padded b ≡ right_fill m.0 b
         unfolding is_padded right_count
         then_fill =
             rw (
               value,
-              lt-ltb 0 (length b) some_bytes,
-              eq-eqb (length b % 64) 0 s.blocks,
-              eq-eqb (stated_bits b % 8) 0 (ap (λ n. n % 8) (sym s.stated) ∙ even),
+              lt-ltb 0 (length b) some,
+              eq-eqb (length b % 64) 0 blocks,
+              eq-eqb (stated_bits b % 8) 0 even,
               eq-eqb (64 * block_count (stated_bits b / 8)) (length b) (ap (λ n. 64 * n) (sym (count ∙ ap block_count value)) ∙ right),
             )
+
+        -- so the fill decides
+        pub then_found : then_some (right_fill m.0 b) m.0 ≡ found b
+        then_found = ap (λ t. then_some t m.0) (sym then_fill) ∙ ap (then_some (is_padded b)) value ∙ some_found (is_padded b) (stated_bits b / 8)
 
 module _ (b : List ℕ) where
   -- what is known where all the tests hold
@@ -143,12 +153,6 @@ module _ (b : List ℕ) where
   unfolding block_count
   room h = let is = known h in (omega arith, omega arith)
 
-  -- the stated bytes, as the unit's conversion gives them
-  pub stated_bytes : is_padded b ≡ true → (x : ℕ) → x ≡ stated_bits b → (r : InBytes) → r ≡ bytes_of_bits (record { 0 = x }) → r.bytes.0 ≡ stated_bits b / 8
-  stated_bytes h x stated r is =
-      let even = (known h).bytes in
-      ap (λ a. a.bytes.0) (is ∙ bytes_are (record { 0 = x }) (ap (λ n. n % 8) stated ∙ even)) ∙ ap (λ n. n / 8) stated
-
   -- by the two answers
   pub answered : {P : Type 0} → (is_padded b ≡ true → P) → (is_padded b ≡ false → P) → P
   answered {P} f g = by (is_padded b) refl
@@ -160,3 +164,11 @@ module _ (b : List ℕ) where
   -- so many bytes are there
   pub length_within : remove_length b ≤ length b
   length_within = answered (λ h. omega (arith, (room h).1, length_of h)) (λ h. omega (arith, no_length h))
+
+  -- what is asked of it
+  pub some_of_found : (o : Option ℕ) → o ≡ found b → is_some o ≡ is_padded b
+  some_of_found o e = answered (λ h. rw (e, h)) (λ h. rw (e, h))
+
+  pub length_of_found : (o : Option ℕ) → o ≡ found b → unwrap_or o 0 ≡ remove_length b
+  unfolding remove_length
+  length_of_found o e = answered (λ h. rw (e, h)) (λ h. rw (e, h))

@@ -12,15 +12,19 @@ use lib.Seq.{length-take-le}
 use Rattle.refusal.specs.Table.{accepted, too_long, wrong_size, other_tail, no_such_block}
 use Rattle.buffers.specs.Same.{same}
 use Rattle.word.specs.BigEndian.{AreBytes}
-use Rattle.units.specs.declared.InBits.{InBits}
+use Rattle.std.specs.Prelude.{Some}
+use Rattle.units.specs.declared.Bits.{Bits}
 use Rattle.units.specs.Units.{bits_of}
+use Rattle.units.proofs.Exact.{bits_are}
+use Rattle.std.specs.Option.{option_eq}
+use native.Mathlib.Nat.{mul_comm}
 use Rattle.standard.specs.Standard.{rest}
 use Rattle.standard.proofs.Folding.{length_rest}
 use Rattle.refusal.specs.declared.Written.{Written}
 use Rattle.units.specs.Units.{longest}
 use Rattle.padding.specs.Padding.{zeros, padding, block_count}
 use Rattle.padding.specs.Writing.{tail_of, tail_size, tail_answer}
-use Rattle.padding.proofs.Tails.{length_bits, fills, fills_blocks, cases, refused_long, refused_size, accepts, accepted_when}
+use Rattle.padding.proofs.Tails.{fills, fills_blocks, cases, refused_long, refused_size, accepts, accepted_when}
 use Rattle.padding.proofs.Wholes.{last_part, last_part_lem}
 use Rattle.padded.specs.Removing.{stated_bits, right_fill}
 use Rattle.padded.specs.Viewing.{view_number}
@@ -42,10 +46,10 @@ module _ (s t : List ℕ) (all : AreBytes t) (w : length s ≤ longest) (long : 
   pub other_fill : same (take (length s % 64) t) (last_part s) ≡ true → right_fill (length s % 64) t ≡ false → false ≡ same t (tail_of s)
   other_fill h f = sym (tail_tests ∙ rw (h, f))
 
-  -- the stated bits x, and the bits that the unit's conversion gave
+  -- the stated bits against those that the unit's conversion gives
   pub right_tail : same (take (length s % 64) t) (last_part s) ≡ true → right_fill (length s % 64) t ≡ true
-      → (x : ℕ) → x ≡ stated_bits t → (bits : InBits) → bits ≡ bits_of (record { 0 = length s }) → eqb x bits.bits.0 ≡ same t (tail_of s)
-  right_tail h f x stated bits is = rw (stated, length_bits (length s) bits w is) (sym (tail_tests ∙ rw (h, f)))
+      → (x : Bits) → x.0 ≡ stated_bits t → option_eq (λ x y. eqb x.0 y.0) (Some x) (bits_of (record { 0 = length s })) ≡ same t (tail_of s)
+  right_tail h f x stated = rw (bits_are (record { 0 = length s }) w, stated, mul_comm (length s) 8) (sym (tail_tests ∙ rw (h, f)))
 
 module _ (s b : List ℕ) (i : ℕ) where
   pub view_long : longest < length s → view_number s b i ≡ too_long

@@ -1,12 +1,14 @@
 -- What the block view and the remover promise: document 01, "Padded blocks" and "Refusal numbers".
-use Rattle.std.specs.Prelude.{ℕ, zero, suc, ◌+◌, ◌*◌, ◌-◌, ◌/◌, ◌<◌, ◌≤◌, ◌≡◌, ◌↔◌, List, [], ◌++◌, length, take, drop}
+use Rattle.std.specs.Prelude.{ℕ, zero, suc, ◌+◌, ◌*◌, ◌-◌, ◌/◌, ◌<◌, ◌≤◌, ◌≡◌, ◌↔◌, List, [], ◌++◌, length, take, drop, Option, Some, None}
 use Rattle.std.specs.Borrow.{Bor}
 use Rattle.refusal.specs.Table.{accepted, too_long, wrong_size, other_tail, no_such_block, not_padded}
 use Rattle.word.specs.BigEndian.{AreBytes}
 use Rattle.units.specs.Units.{longest}
 use Rattle.padding.specs.Padding.{padded, block_count}
 use Rattle.padding.specs.Writing.{tail_of, tail_size, written, buffer_after}
-use Rattle.padded.specs.Viewing.{view_number, view_part, view_place, view_address}
+use Rattle.padded.specs.Viewing.{view_number, view_part, view_place, view_address, place_of}
+use Rattle.padded.specs.declared.Block.{Block}
+use Rattle.padded.specs.declared.Block.TheVariants.{InMessage, InBuffer}
 use Rattle.padded.specs.Removing.{remove_number, remove_length, remove_part}
 
 -- the first n viewed blocks, joined
@@ -67,6 +69,13 @@ pub record Promises : Type 0 where
   pub view_nowhere :
       (message buffer : List ℕ) (i : ℕ) → (view_number message buffer i ≡ accepted → ⊥)
       → view_place message buffer i ≡ record { which = 0; offset = 0; length = 0 }
+  -- a C host is told all of it
+  pub place_none : place_of None ≡ record { which = 0; offset = 0; length = 0 }
+  pub place_some :
+      (from : ℕ)
+      → (place_of (Some (InMessage from)) ≡ record { which = 1; offset = from; length = 64 })
+      × (place_of (Some (InBuffer from)) ≡ record { which = 2; offset = from; length = 64 })
+  pub place_told : (x y : Option Block) → place_of x ≡ place_of y → x ≡ y
   -- and its address is that of the place in what was lent: the message's, or else the buffer's
   pub address_inside :
       (message buffer : Bor (List ℕ)) (i : ℕ) → (view_place message.now buffer.now i).which ≡ 1

@@ -1,5 +1,5 @@
 -- "Viewing": document 01, "Padded blocks". Order of refusals: 10, 11, 13, 12.
-use Rattle.std.specs.Prelude.{ℕ, ◌+◌, ◌*◌, ◌-◌, ◌/◌, List, cond, ltb, eqb, length, take, drop}
+use Rattle.std.specs.Prelude.{ℕ, ◌+◌, ◌*◌, ◌-◌, ◌/◌, List, cond, ltb, eqb, length, take, drop, Option, Some, None}
 use Rattle.std.specs.Borrow.{Bor}
 use Rattle.refusal.specs.Table.{accepted, too_long, wrong_size, other_tail, no_such_block}
 use Rattle.buffers.specs.Same.{same}
@@ -7,6 +7,8 @@ use Rattle.units.specs.Units.{longest}
 use Rattle.padding.specs.Padding.{block_count}
 use Rattle.padding.specs.Writing.{tail_of, tail_size}
 use Rattle.padded.specs.declared.Place.{Place}
+use Rattle.padded.specs.declared.Block.{Block}
+use Rattle.padded.specs.declared.Block.TheVariants.{InMessage, InBuffer}
 
 -- the number for block i of the padded message, given the message and the tail buffer
 unfoldable pub view_number : List ℕ → List ℕ → ℕ → ℕ
@@ -26,6 +28,12 @@ in_message = 1
 
 abbrev pub in_buffer : ℕ
 in_buffer = 2
+
+-- what a C host is told of where a block lies
+abbrev pub place_of : Option Block → Place
+place_of None = record { which = in_neither; offset = 0; length = 0 }
+place_of (Some (InMessage from)) = record { which = in_message; offset = from; length = 64 }
+place_of (Some (InBuffer from)) = record { which = in_buffer; offset = from; length = 64 }
 
 -- "part of the message where it lies wholly inside it, else .. part of the tail buffer"; "empty part" where the number is a refusal
 unfoldable pub view_place : List ℕ → List ℕ → ℕ → Place

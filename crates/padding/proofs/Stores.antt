@@ -1,25 +1,25 @@
 -- A byte, a list behind it and a list of eight behind that, stored one after the other. Assumes nothing.
-use Prim.Native.Nat.{ℕ, ◌+◌, ◌≤◌}
-use mathlib.Core.Path.{◌≡◌, sym, ◌∙◌}
+use Prim.Native.Nat.{ℕ, ◌+◌, ◌-◌, ◌≤◌, ◌<◌}
+use mathlib.Core.Path.{◌≡◌, ap, ◌∙◌}
 use mathlib.Core.List.{List, [], ◌∷◌, ◌++◌, append_assoc}
 use native.Mathlib.Numerals.{add-one}
 use native.Mathlib.Omega.{arith}
-use lib.ListN.{length, take, drop, set, length-append, length-set, length-drop}
-use lib.Seq.{length-take-le, take_at, drop_at, drop-drop, take-suc-set, drop-set-lt}
-use Rattle.buffers.specs.Copy.{copied}
-use Rattle.buffers.proofs.Copied.{copied_there}
+use borrow.Rule.Slice.PartMut.{put_mid}
+use lib.ListN.{length, take, drop, set, length-set}
+use lib.Seq.{drop-drop, take-suc-set, drop-set-lt}
+use Rattle.std.proofs.lemmas.Slice.{take-put_mid, drop-put_mid}
 
 -- v at `from`, the list z up to `to`, and there the list n
-pub closed : (d z n : List ℕ) (from to v : ℕ) → from + 1 + length z ≡ to → length n ≡ 8 → to + 8 ≤ length d
-    → copied (copied (set d from v) (from + 1) z) to n ≡ take from d ++ ((v ∷ (z ++ n)) ++ drop (to + 8) d)
-closed d z n from to v h eight l =
-    let front = take from d ++ (v ∷ []) in
-    let cleared : copied (set d from v) (from + 1) z ≡ (front ++ z) ++ drop to d =
-    copied_there (set d from v) z (from + 1) (rw (h, length-set d from v) (omega arith))
-    ∙ rw (h, add-one, take-suc-set d from v (omega arith), drop-set-lt to d from v (omega arith)) (sym (append_assoc front z (drop to d))) in
-    let long : length (front ++ z) ≡ to = simp (length-append, length-take-le from d (omega arith)) (omega arith) in
-    let room : to + length n ≤ length ((front ++ z) ++ drop to d) =
-    rw (length-append (front ++ z) (drop to d), long, length-drop to d, eight) (omega arith) in
-    rw (cleared, copied_there ((front ++ z) ++ drop to d) n to room, eight)
-    (rw (take_at (front ++ z) (drop to d) to long, ← (drop-drop 8 to ((front ++ z) ++ drop to d)), drop_at (front ++ z) (drop to d) to long, drop-drop 8 to d)
-    (simp append_assoc))
+pub closed : (d z n : List ℕ) (from to v k : ℕ) → from < to → length z ≡ to - (from + 1) → length n ≡ 8 → k ≡ 8 → to + 8 ≤ length d
+    → put_mid to k (put_mid (from + 1) (to - (from + 1)) (set d from v) z) n ≡ take from d ++ ((v ∷ (z ++ n)) ++ drop (to + 8) d)
+closed d z n from to v k h long eight k8 l =
+    let marked = set d from v in
+    let there : length marked ≡ length d = length-set d from v in
+    let cleared = put_mid (from + 1) (to - (from + 1)) marked z in
+    let front : take to cleared ≡ (take from d ++ (v ∷ [])) ++ z =
+    take-put_mid (from + 1) (to - (from + 1)) marked z to (omega arith) (omega arith)
+    ∙ ap (λ t. t ++ z) (rw add-one (take-suc-set d from v (omega arith))) in
+    let later : drop to cleared ≡ drop to d =
+    drop-put_mid (from + 1) (to - (from + 1)) marked z to (omega arith) (omega arith) long
+    ∙ drop-set-lt to d from v (omega arith) in
+    rw (front, later, k8, drop-drop 8 to d) (simp append_assoc)

@@ -13,9 +13,10 @@ use Rattle.units.specs.Units.{longest}
 use Rattle.padding.specs.Padding.{zeros, padding, block_count}
 use Rattle.word.specs.BigEndian.{big_endian}
 use Rattle.word.proofs.BigEndian.{length_bigEndian}
-use Rattle.units.specs.declared.InBits.{InBits}
+use Rattle.std.specs.Prelude.{Some}
+use Rattle.units.specs.declared.Bits.{Bits}
 use Rattle.units.specs.Units.{bits_of}
-use Rattle.units.proofs.Exact.{bits_are}
+use Rattle.units.proofs.Exact.{bits_are, few}
 use Rattle.refusal.specs.declared.Written.{Written}
 use Rattle.refusal.specs.Table.{refused_by, wrote}
 use Rattle.padding.specs.Writing.{tail_size, tail_answer, tail_after}
@@ -107,8 +108,11 @@ module _ (m room : ℕ) (answer : Written) (is : answer ≡ tail_answer m room) 
   big = let known = starts in omega arith
 
 -- the number of bits is what the unit's conversion gave
-pub length_bits : (m : ℕ) (bits : InBits) → m ≤ longest → bits ≡ bits_of (record { 0 = m }) → bits.bits.0 ≡ 8 * m
-length_bits m bits h e = ap (λ r. r.bits.0) (e ∙ bits_are (record { 0 = m }) h) ∙ mul_comm m 8
+pub length_bits : (m : ℕ) (bits : Bits) → bits_of (record { 0 = m }) ≡ Some bits → bits.0 ≡ 8 * m
+length_bits m bits e =
+    let is = sym e ∙ bits_are (record { 0 = m }) (few (record { 0 = m }) bits e) in
+    let same : bits ≡ record { 0 = m * 8 } = cc in
+    ap (λ b. b.0) same ∙ mul_comm m 8
 
 module _ (m : ℕ) (buffer : List ℕ) (answer : Written) (is : answer ≡ tail_answer m (length buffer)) where
   -- refused: nothing is written
@@ -122,15 +126,15 @@ module _ (m : ℕ) (buffer : List ℕ) (answer : Written) (is : answer ≡ tail_
     after = simp (eq-eqb (tail_answer m (length buffer)).number accepted (ap (λ r. r.number) (sym is) ∙ ok))
 
     -- accepted: what is written is the padding
-    pub padded_behind : (bits : InBits) → bits ≡ bits_of (record { 0 = m })
-        → take (m % 64) buffer ++ ((0x80 ∷ (replicate (answer.count - 8 - (m % 64 + 1)) 0 ++ big_endian 8 bits.bits.0)) ++ drop (answer.count - 8 + 8) buffer)
+    pub padded_behind : (bits : Bits) → bits_of (record { 0 = m }) ≡ Some bits
+        → take (m % 64) buffer ++ ((0x80 ∷ (replicate (answer.count - 8 - (m % 64 + 1)) 0 ++ big_endian 8 bits.0)) ++ drop (answer.count - 8 + 8) buffer)
         ≡ tail_after m buffer
     unfolding padding
     padded_behind bits e =
         let known = accepted_when m (length buffer) answer is ok in
         let z : answer.count - 8 - (m % 64 + 1) ≡ zeros m = omega (arith, fills m) in
         let end : answer.count - 8 + 8 ≡ tail_size m = omega (arith, fills m) in
-        rw (z, end, length_bits m bits known.within e) (sym after)
+        rw (z, end, length_bits m bits e) (sym after)
 
 -- a caller's buffer that is long enough, and a message that is not too long
 pub pads : (m : ℕ) (buffer : List ℕ) → m ≤ longest → tail_size m ≤ length buffer

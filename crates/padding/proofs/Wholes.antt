@@ -5,10 +5,8 @@ use mathlib.Core.List.{List, ◌++◌, append_assoc}
 use native.Mathlib.Omega.{arith}
 use borrow.Author.Tests.{eq-eqb, ne_eqb}
 use lib.ListN.{length, take, drop, length-append, length-take, length-drop, take-append-drop}
-use lib.Seq.{take_all, take_at, drop-append-add, drop-drop}
+use lib.Seq.{take_all, take_at, drop-append-add, drop-drop, length-take-le}
 use Rattle.refusal.specs.Table.{accepted}
-use Rattle.buffers.specs.Copy.{copied}
-use Rattle.buffers.proofs.Copied.{copied_front}
 use Rattle.standard.specs.Standard.{rest}
 use Rattle.standard.proofs.Folding.{length_rest}
 use Rattle.refusal.specs.declared.Written.{Written}
@@ -34,15 +32,12 @@ module _ (s : List ℕ) where
   unwritten buffer answer is h = simp (ne_eqb (tail_answer (length s) (length buffer)).number accepted (λ z. h (ap (λ r. r.number) is ∙ z)))
 
   module _ (buffer : List ℕ) (answer : Written) (is : answer ≡ tail_answer (length s) (length buffer)) (ok : answer.number ≡ accepted) where
-    last_fits : length last_part ≤ length buffer
-    last_fits = let known = accepted_when (length s) (length buffer) answer is ok in omega (arith, last_length, fills (length s))
+    pub last_fits : length s - length s / 64 * 64 ≤ length buffer
+    last_fits = let known = accepted_when (length s) (length buffer) answer is ok in omega (arith, fills (length s))
 
-    module _ (laid : List ℕ) (so : laid ≡ copied buffer 0 last_part) where
-      lies : laid ≡ last_part ++ drop (length last_part) buffer
-      lies = so ∙ copied_front buffer last_part last_fits
-
+    module _ (laid : List ℕ) (lies : laid ≡ last_part ++ drop (length last_part) buffer) where
       as_long : length laid ≡ length buffer
-      as_long = rw lies (omega (arith, length-append last_part (drop (length last_part) buffer), length-drop (length last_part) buffer, last_fits))
+      as_long = rw lies (omega (arith, length-append last_part (drop (length last_part) buffer), length-drop (length last_part) buffer, last_length, last_fits))
 
       in_front : take (length s % 64) laid ≡ rest s
       in_front = rw lies (take_at last_part (drop (length last_part) buffer) (length s % 64) last_length ∙ last_part_lem)

@@ -1,6 +1,8 @@
--- "Refusal numbers": the rows of the table, by name. The code's constants stand in src/lib.rt in the same order.
-use Rattle.std.specs.Prelude.{ℕ}
+-- "Refusal numbers": the rows of the table, by name. The code's enum `Refusal` stands in src/lib.rt in the same order.
+use Rattle.std.specs.Prelude.{ℕ, Result, Ok, Err}
 use Rattle.refusal.specs.declared.Written.{Written}
+use Rattle.refusal.specs.declared.Refusal.{Refusal}
+use Rattle.refusal.specs.declared.Refusal.TheVariants
 
 -- "Number 0 is an accepted call"
 abbrev pub accepted : ℕ
@@ -126,3 +128,45 @@ refused_by number = record { number = number; count = 0 }
 
 abbrev pub wrote : ℕ → Written
 wrote size = record { number = accepted; count = size }
+
+-- the number of a refusal of the code
+abbrev pub number_by : Refusal → ℕ
+number_by TheVariants.Form = form
+number_by TheVariants.CountOrNote = count_or_note
+number_by TheVariants.BadLength = bad_length
+number_by TheVariants.BadLoop = bad_loop
+number_by TheVariants.Unlisted = unlisted
+number_by TheVariants.SlotNotInOrder = slot_not_in_order
+number_by TheVariants.Decided = decided
+number_by TheVariants.PastLength = past_length
+number_by TheVariants.StateNotInOrder = state_not_in_order
+number_by TheVariants.TooLong = too_long
+number_by TheVariants.WrongSize = wrong_size
+number_by TheVariants.NoSuchBlock = no_such_block
+number_by TheVariants.OtherTail = other_tail
+number_by TheVariants.NotPadded = not_padded
+number_by TheVariants.NoneListed = none_listed
+number_by TheVariants.ShortBuffer = short_buffer
+number_by TheVariants.NoMacLine = no_mac_line
+number_by TheVariants.OtherCode = other_code
+number_by TheVariants.NoWord = no_word
+number_by TheVariants.NoNumber = no_number
+number_by TheVariants.NoSeparator = no_separator
+number_by TheVariants.NoDigit = no_digit
+number_by TheVariants.TextAfter = text_after
+number_by TheVariants.NoSuchPage = no_such_page
+number_by TheVariants.OtherPathLength = other_path_length
+number_by TheVariants.ShortPathBuffer = short_path_buffer
+number_by TheVariants.TooDeep = too_deep
+number_by TheVariants.OtherPageSize = other_page_size
+number_by TheVariants.OtherGroups = other_groups
+
+-- the number of what a call answers, whatever it gives where it is accepted
+abbrev pub number_of : {T : Type 0} → Result T Refusal → ℕ
+number_of (Ok _) = accepted
+number_of (Err refusal) = number_by refusal
+
+-- what a C host is told of a call that writes
+abbrev pub written_of : Result ℕ Refusal → Written
+written_of (Ok size) = wrote size
+written_of (Err refusal) = refused_by (number_by refusal)

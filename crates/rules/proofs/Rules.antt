@@ -1,6 +1,7 @@
 -- Each rule, and its test. Assumes nothing.
 use Prim.Native.Nat.{ℕ, ◌-◌, ◌/◌, ◌%◌, ◌≤◌, ◌<◌}
-use mathlib.Core.Path.{◌≡◌}
+use mathlib.Core.Path.{◌≡◌, sym, ap, ◌∙◌}
+use Rattle.std.specs.Prelude.{Some}
 use mathlib.Core.Logic.{◌↔◌}
 use mathlib.Core.Bool.{Bool, true, ◌&&◌}
 use native.Mathlib.Omega.{arith}
@@ -8,17 +9,19 @@ use borrow.Author.Tests.{leb-true, ltb-true, eqb-true, le-leb, lt-ltb, eq-eqb}
 use lib.Dec.{leb, eqb}
 use Rattle.truth.proofs.Tests.{first, second, both}
 use Rattle.units.specs.Units.{frames_of}
-use Rattle.units.specs.declared.InFrames.{InFrames}
+use Rattle.units.specs.declared.Frames.{Frames}
 use Rattle.units.proofs.Exact.{frames_are}
 use Rattle.rules.specs.Rules.{count_rule, is_note, note_rule, length_rule, loop_rule, obeys}
 use Rattle.rules.specs.Promises.{Obeyed, PlaysOf}
 use Rattle.rules.specs.declared.Record.{Record}
 
 -- the frames of the even part of a length: half of it
-pub whole_frames : (b : ℕ) (f : InFrames) → f ≡ frames_of (record { 0 = b - b % 2 }) → f.frames.0 ≡ b / 2
+pub whole_frames : (b : ℕ) (f : Frames) → frames_of (record { 0 = b - b % 2 }) ≡ Some f → f.0 ≡ b / 2
 whole_frames b f h =
     let half : (b - b % 2) / 2 ≡ b / 2 = omega arith in
-    rw (h, frames_are (record { 0 = b - b % 2 }) (omega arith)) half
+    let there = sym (frames_are (record { 0 = b - b % 2 }) (omega arith)) ∙ h in
+    let same : record { 0 = (b - b % 2) / 2 } ≡ f = cc in
+    sym (ap (λ n. n.0) same) ∙ half
 
 -- two tests together
 both_is : {P Q : Type 0} (p q : Bool) → (p ≡ true) ↔ P → (q ≡ true) ↔ Q → (p && q ≡ true) ↔ (P × Q)

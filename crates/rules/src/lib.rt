@@ -8,7 +8,7 @@ use units::{Bytes, Frames};
 
 // What a sheet's line says of a note: length in bytes, loop start and end in frames, digest.
 #[repr(C)]
-#[derive(Clone, Copy)]
+#[derive(Clone, Copy, Debug, PartialEq, Eq)]
 pub struct Record {
     pub length: u32,
     pub loop_start: u32,
@@ -25,20 +25,23 @@ const SHORTEST_SAMPLE: u64 = 2;
 const LONGEST_SAMPLE: u64 = 4294967294;
 
 // Rule 2, on the number of notes.
+#[tactic(auto, unfolding(crate::specs::Rules::count_rule))]
 pub fn count_rule(count: u32) -> bool
     ensures { result ≡ count_rule count }
 {
-    1 <= count && count <= NOTES
+    (1..=NOTES).contains(&count)
 }
 
 // Whether a number is a note. It is not cut down: 261 is none.
+#[tactic(auto, unfolding(crate::specs::Rules::is_note))]
 pub fn is_note(note: u64) -> bool
     ensures { result ≡ is_note note }
 {
-    1 <= note && note <= NOTES as u64
+    (1..=NOTES as u64).contains(&note)
 }
 
 // Rule 2, on a note and the one before it.
+#[tactic(auto, unfolding(crate::specs::Rules::note_rule))]
 pub fn note_rule(last: u32, note: u32) -> bool
     ensures { result ≡ note_rule last note }
 {
@@ -46,11 +49,11 @@ pub fn note_rule(last: u32, note: u32) -> bool
 }
 
 // Rule 3, on a sample's length.
+#[tactic(auto, unfolding(crate::specs::Rules::length_rule))]
 pub fn length_rule(length: Bytes) -> bool
     ensures { result ≡ length_rule length.0 }
 {
-    let bytes = length.0;
-    bytes % 2 == 0 && (SHORTEST_SAMPLE <= bytes && bytes <= LONGEST_SAMPLE)
+    length.0 % 2 == 0 && (SHORTEST_SAMPLE..=LONGEST_SAMPLE).contains(&length.0)
 }
 
 // Rule 4, on a sample's length and its loop: here bytes and frames meet. The end is the last frame that sounds, so it lies below the
@@ -59,8 +62,10 @@ pub fn loop_rule(length: Bytes, start: Frames, end: Frames) -> bool
     ensures { result ≡ loop_rule length.0 start.0 end.0 }
 {
     let whole = Bytes(length.0 - length.0 % 2);
-    let sample = whole.frames();
-    start.0 <= end.0 && end.0 < sample.frames.0
+    let Some(frames) = whole.frames() else {
+        return false;
+    };
+    start.0 <= end.0 && end.0 < frames.0
 }
 
 // Rule 3, and rule 4, of a record.
@@ -81,6 +86,7 @@ pub fn good_loop(r: Record) -> bool
 }
 
 // Rules 3 and 4.
+#[tactic(auto, unfolding(crate::specs::Rules::obeys))]
 pub fn obeys(r: Record) -> bool
     ensures { result ≡ obeys r }
 {
@@ -88,6 +94,7 @@ pub fn obeys(r: Record) -> bool
 }
 
 // The record of no note.
+#[tactic(auto, unfolding(crate::specs::Rules::zero_record))]
 pub fn zero_record() -> Record
     ensures { result ≡ zero_record }
 {

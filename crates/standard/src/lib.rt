@@ -1,15 +1,13 @@
 // The SM3 standard's page: the functions that it names. Their names, and what each of them means, are those of specs/Standard.antt.
 #![tactic(auto)]
 
-ghost use Rattle.std.specs.Prelude.{◌≡◌, ◌+◌, ◌≤◌, ◌%◌};
-ghost use Rattle.std.proofs.Math.Seq.{paste};
-ghost use Rattle.word.specs.BigEndian.{big_endian};
+ghost use Rattle.std.specs.Prelude.{◌≡◌, ◌+◌, ◌%◌};
 ghost use Rattle.word.specs.Rotation.{◌<<<◌};
-ghost use Rattle.standard.specs.Standard.{FF, GG, P0, P1, T, round, xor_words, hash_value};
+ghost use Rattle.standard.specs.Standard.{◌xor◌, FF, GG, P0, P1, T, round, xor_words, hash_value};
 
 // The eight words of a chaining value, or the eight registers of a round.
 #[repr(C)]
-#[derive(Clone, Copy)]
+#[derive(Clone, Copy, Debug, PartialEq, Eq)]
 pub struct Words {
     pub a: u32,
     pub b: u32,
@@ -21,7 +19,8 @@ pub struct Words {
     pub h: u32,
 }
 
-// Tj <<< (j mod 32). Of a literal j the compiler leaves one number.
+// Tj <<< (j mod 32). Of a literal j the compiler leaves one number. (One rotation of a T that is chosen before it makes a block 2,901
+// instructions, over bench/run's 2,900; so it has 2,891.)
 fn constant(j: u32) -> u32
     ensures { result ≡ T j <<< (j % 32) }
 {
@@ -51,19 +50,26 @@ fn gg(j: u32, x: u32, y: u32, z: u32) -> u32
     if j < 16 { x ^ y ^ z } else { ((y ^ z) & x) ^ z }
 }
 
-// The permutation of the compression, x ^ rotate(x, 9) ^ rotate(x, 17). With one rotation inside the other the word is copied once
-// less (`rotations_nested` in proofs/Rotation.antt of `word` joins the two).
+// The permutation of the compression, x ^ rotate(x, 9) ^ rotate(x, 17).
 fn p0(x: u32) -> u32
     ensures { result ≡ P0 x }
 {
-    x ^ word::rotate(x ^ word::rotate(x, 8), 9)
+    permuted(x, 9)
 }
 
-// The permutation of the expansion, x ^ rotate(x, 15) ^ rotate(x, 23), in the same way.
+// The permutation of the expansion, x ^ rotate(x, 15) ^ rotate(x, 23).
 pub fn p1(x: u32) -> u32
     ensures { result ≡ P1 x }
 {
-    x ^ word::rotate(x ^ word::rotate(x, 8), 15)
+    permuted(x, 15)
+}
+
+// x ^ rotate(x, k) ^ rotate(x, 8 + k). With one rotation inside the other the word is copied once less (`rotations_nested` in
+// proofs/Rotation.antt of `word` joins the two).
+fn permuted(x: u32, k: u32) -> u32
+    ensures { result ≡ x xor (x <<< k) xor (x <<< (8 + k)) }
+{
+    x ^ word::rotate(x ^ word::rotate(x, 8), k)
 }
 
 // Round j on the registers r, with Wj and W'j.
@@ -103,26 +109,21 @@ pub fn xored(x: Words, y: Words) -> Words
     }
 }
 
-// 32 bytes with those of a word from index at on.
-fn with_word(bytes: [u8; 32], at: usize, word: u32) -> [u8; 32]
-    requires { at + 4 ≤ 32 }
-    ensures { result ≡ paste bytes at (big_endian 4 word) 4 }
-{
-    let four = word::bytes_of(word);
-    let mut laid = bytes;
-    laid[at] = four[0];
-    laid[at + 1] = four[1];
-    laid[at + 2] = four[2];
-    laid[at + 3] = four[3];
-    laid
-}
-
 // The eight words as 32 bytes.
 pub fn hash_value(v: Words) -> [u8; 32]
     ensures { result ≡ hash_value v }
 {
-    let ab = with_word(with_word([0; 32], 0, v.a), 4, v.b);
-    let cd = with_word(with_word(ab, 8, v.c), 12, v.d);
-    let ef = with_word(with_word(cd, 16, v.e), 20, v.f);
-    with_word(with_word(ef, 24, v.g), 28, v.h)
+    let words = [
+        word::bytes_of(v.a),
+        word::bytes_of(v.b),
+        word::bytes_of(v.c),
+        word::bytes_of(v.d),
+        word::bytes_of(v.e),
+        word::bytes_of(v.f),
+        word::bytes_of(v.g),
+        word::bytes_of(v.h),
+    ];
+    let mut bytes = [0; 32];
+    bytes.copy_from_slice(words.as_flattened());
+    bytes
 }

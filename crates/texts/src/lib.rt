@@ -5,7 +5,7 @@ ghost use Rattle.std.specs.Prelude.{◌≡◌};
 ghost use Rattle.decimal.specs.Writing.{decimal};
 ghost use Rattle.texts.specs.Texts.{empty_text, with_part};
 
-// The text is the first so many of these bytes.
+// The text is the first so many of these bytes. It is no String: to put it together cannot fail, and takes no memory of the heap.
 #[derive(Clone, Copy)]
 pub struct Text {
     pub bytes: [u8; 1024],
@@ -15,6 +15,7 @@ pub struct Text {
 // A text has at most so many bytes.
 pub const MOST: usize = 1024;
 
+#[tactic(auto, unfolding(crate::specs::Texts::empty_text))]
 pub fn empty() -> Text
     ensures { result ≡ empty_text }
 {
@@ -25,22 +26,15 @@ pub fn empty() -> Text
 }
 
 // The text with a part behind it; as it was where the part does not fit.
-pub fn with(text: Text, part: &[u8]) -> Text
+pub fn with(mut text: Text, part: &[u8]) -> Text
     ensures { result ≡ with_part text part.now }
 {
-    if MOST < part.len() {
-        return text;
-    }
     let at = text.length;
-    if MOST - part.len() < at {
-        return text;
+    if part.len() <= MOST && at <= MOST - part.len() {
+        buffers::copy(&mut text.bytes, at, part);
+        text.length = at + part.len();
     }
-    let mut bytes = text.bytes;
-    buffers::copy(&mut bytes, at, part);
-    Text {
-        bytes,
-        length: at + part.len(),
-    }
+    text
 }
 
 // The text with a number's figures behind it.
@@ -48,7 +42,5 @@ pub fn with_number(text: Text, n: u64) -> Text
     ensures { result ≡ with_part text (decimal n) }
 {
     let figures = decimal::figures_of(n);
-    let bytes = figures.bytes;
-    let from = figures.from;
-    with(text, &bytes[from..])
+    with(text, &figures.bytes[figures.from..])
 }

@@ -1,113 +1,49 @@
 // Three units of length that are never mixed: bits, bytes and sample frames. One frame is two bytes.
+// A length in another unit is `None` where it has no exact value there.
 #![tactic(auto)]
 
 ghost use Rattle.std.specs.Prelude.{◌≡◌};
 ghost use Rattle.units.specs.Units.{bits_of, bytes_of_bits, frames_of, bytes_of_frames};
 
-#[derive(Clone, Copy)]
+#[derive(Clone, Copy, Debug, PartialEq, Eq, PartialOrd, Ord)]
 pub struct Bits(pub u64);
 
-#[derive(Clone, Copy)]
+#[derive(Clone, Copy, Debug, PartialEq, Eq, PartialOrd, Ord)]
 pub struct Bytes(pub u64);
 
-#[derive(Clone, Copy)]
+#[derive(Clone, Copy, Debug, PartialEq, Eq, PartialOrd, Ord)]
 pub struct Frames(pub u64);
-
-// A length in another unit, and whether it has an exact value there; 0 where it has none.
-#[derive(Clone, Copy)]
-pub struct InBits {
-    pub exact: bool,
-    pub bits: Bits,
-}
-
-#[derive(Clone, Copy)]
-pub struct InBytes {
-    pub exact: bool,
-    pub bytes: Bytes,
-}
-
-#[derive(Clone, Copy)]
-pub struct InFrames {
-    pub exact: bool,
-    pub frames: Frames,
-}
 
 // The most bytes whose bits can be counted, 2^61 - 1: no message has more.
 pub const LONGEST: u64 = 0x1fff_ffff_ffff_ffff;
 
-// The most frames whose bytes can be counted: 2^63 - 1.
-const MOST_FRAMES: u64 = 0x7fff_ffff_ffff_ffff;
-
+// Two conversions go by a product, two by a quotient. They stay four: each is one line, and a trait over the units would be longer.
 impl Bits {
-    pub fn bytes(self) -> InBytes
+    pub fn bytes(self) -> Option<Bytes>
         ensures { result ≡ bytes_of_bits self }
     {
-        let bits = self.0;
-        if bits % 8 == 0 {
-            InBytes {
-                exact: true,
-                bytes: Bytes(bits / 8),
-            }
-        } else {
-            InBytes {
-                exact: false,
-                bytes: Bytes(0),
-            }
-        }
+        (self.0 % 8 == 0).then_some(Bytes(self.0 / 8))
     }
 }
 
 impl Bytes {
-    pub fn bits(self) -> InBits
+    pub fn bits(self) -> Option<Bits>
         ensures { result ≡ bits_of self }
     {
-        let bytes = self.0;
-        if bytes <= LONGEST {
-            InBits {
-                exact: true,
-                bits: Bits(bytes * 8),
-            }
-        } else {
-            InBits {
-                exact: false,
-                bits: Bits(0),
-            }
-        }
+        self.0.checked_mul(8).map(Bits)
     }
 
-    pub fn frames(self) -> InFrames
+    pub fn frames(self) -> Option<Frames>
         ensures { result ≡ frames_of self }
     {
-        let bytes = self.0;
-        if bytes % 2 == 0 {
-            InFrames {
-                exact: true,
-                frames: Frames(bytes / 2),
-            }
-        } else {
-            InFrames {
-                exact: false,
-                frames: Frames(0),
-            }
-        }
+        (self.0 % 2 == 0).then_some(Frames(self.0 / 2))
     }
 }
 
 impl Frames {
-    pub fn bytes(self) -> InBytes
+    pub fn bytes(self) -> Option<Bytes>
         ensures { result ≡ bytes_of_frames self }
     {
-        let frames = self.0;
-        if frames <= MOST_FRAMES {
-            InBytes {
-                exact: true,
-                bytes: Bytes(frames * 2),
-            }
-        } else {
-            InBytes {
-                exact: false,
-                bytes: Bytes(0),
-            }
-        }
+        self.0.checked_mul(2).map(Bytes)
     }
 }

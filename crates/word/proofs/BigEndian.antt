@@ -2,6 +2,7 @@
 use Rattle.std.proofs.Common.{◌≡◌, ℕ, zero, suc, ◌+◌, ◌*◌, ◌/◌, ◌%◌, ◌^◌, ◌<◌, List, [], ◌∷◌, ◌++◌, length, sym, refl, ap, ◌∙◌, ap₂, suc-le-suc, mod-lt, zero-lt-suc, pow-suc, div-one, add-one, arith, length-append}
 use native.Mathlib.Nat.{mod-one, div-div-eq-div-mul, pow-succ'}
 use lib.Arith.{mod-mul, digits_div, digits_mod}
+use Rattle.std.specs.Int.{byte_at, bytes_high_first}
 use Rattle.word.specs.BigEndian.{big_endian, number_from, number_of, AreBytes}
 
 pub length_bigEndian : (n x : ℕ) → length (big_endian n x) ≡ n
@@ -33,6 +34,16 @@ first_byte zero x = ap (λ (a : ℕ). a % 256 ∷ []) (sym (div-one x))
 first_byte (suc n) x =
     ap (λ (l : List ℕ). l ++ (x % 256 ∷ [])) (first_byte n (x / 256))
     ∙ ap (λ (a : ℕ). a % 256 ∷ (big_endian n (x / 256) ++ (x % 256 ∷ []))) (div-div-eq-div-mul x 256 (256 ^ n) ∙ ap (λ (a : ℕ). x / a) (sym (pow-succ' 256 n)))
+
+-- std writes them by their places
+pub high_first : (n x : ℕ) → bytes_high_first n x ≡ big_endian n x
+unfolding big_endian
+high_first zero x = refl
+high_first (suc n) x = ap₂ (λ (b : ℕ) (l : List ℕ). b ∷ l) (by_place n x) (high_first n x) ∙ sym (first_byte n x)
+  where
+    by_place : (n x : ℕ) → byte_at n x ≡ x / 256 ^ n % 256
+    by_place zero x = ap (λ (a : ℕ). a % 256) (sym (div-one x))
+    by_place (suc n) x = refl
 
 pub are_bytes_tail : (b : ℕ) (bs : List ℕ) → AreBytes (b ∷ bs) → AreBytes bs
 unfolding AreBytes

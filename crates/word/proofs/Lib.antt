@@ -1,5 +1,4 @@
 pub mod Turning
-pub mod Xor
 pub mod Rotation
 pub mod BigEndian
 pub mod Proved

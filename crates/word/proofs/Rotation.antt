@@ -1,10 +1,9 @@
 -- The laws of <<< on words. Assumes nothing.
 use Rattle.std.proofs.Common.{◌≡◌, ℕ, zero, suc, ◌+◌, ◌-◌, ◌*◌, ◌/◌, ◌%◌, ◌^◌, ◌<◌, ◌≤◌, sym, refl, ap, ◌∙◌, subst, ap₂, ⊎_elim, add-zero, add-suc, mod-eq_of_lt, eq-zero-or-pos, eq-or-lt_of_le, mul-one, div-one, arith}
 use native.Mathlib.Nat.{mod-mod}
-use lib.Bits.{bit_or, bit_xor, or_self}
+use lib.Bits.{bit_or, bit_xor, or_self, xor_assoc}
 use Rattle.word.specs.Rotation.{◌<<<◌}
 use Rattle.word.proofs.Turning.{turn, turn_or, turn_lt, turn_xor, turn_none, turn_all, turn_further}
-use Rattle.word.proofs.Xor.{xor_assoc}
 
 -- x <<< k is a turn by k % 32 places
 rotated : (k x m n : ℕ) → k % 32 ≡ n → m + n ≡ 32 → x <<< k ≡ turn m n x

@@ -1,13 +1,12 @@
 -- `read` reads a number. The invariant: the number is the one that goes on from the next reached with the value reached.
 -- Assumes nothing.
-use Prim.Native.Nat.{◌≤◌, ◌-◌}
+use Prim.Native.Nat.{◌+◌}
 use mathlib.Core.Path.{◌≡◌}
-use lib.ListN.{length, drop}
+use lib.ListN.{drop}
+use Rattle.std.specs.Prelude.{Some}
 use Rattle.decimal.specs.Reading.{numeral_at, going_on}
 use Rattle.decimal.proofs.read.Given as goal
 
-abbrev pub invariant-loop-next : goal.invariant-loop-next
-invariant-loop-next l = (l.next ≤ length l.text) × (numeral_at l.text l.at ≡ going_on l.value l.next (drop l.next l.text))
-
-abbrev pub decreases-loop-next : goal.decreases-loop-next
-decreases-loop-next l = length l.text - l.next
+abbrev pub invariant-loop-byte : goal.invariant-loop-byte
+invariant-loop-byte l =
+    (l.next ≡ l.at + 1 + l.byte-index) × (numeral_at l.text l.at ≡ Some (going_on l.value l.next (drop l.byte-index l.byte-items)))

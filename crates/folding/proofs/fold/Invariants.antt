@@ -1,11 +1,10 @@
 use mathlib.Core.Path.{◌≡◌}
-use Prim.Native.Nat.{◌≤◌, ◌-◌}
-use lib.ListN.{length, drop}
+use lib.ListN.{length}
 use Rattle.standard.specs.Standard.{folded}
 use Rattle.folding.proofs.fold.Given as goal
 
-abbrev pub invariant-loop-i : goal.invariant-loop-i
-invariant-loop-i l = (l.i ≤ length l.bytes) × (folded l.initial.r l.bytes ≡ folded l.r (drop l.i l.bytes))
+abbrev pub invariant-loop-block : goal.invariant-loop-block
+invariant-loop-block l = folded l.initial.r l.bytes ≡ folded l.r l.rest
 
-abbrev pub decreases-loop-i : goal.decreases-loop-i
-decreases-loop-i l = length l.bytes - l.i
+abbrev pub decreases-loop-block : goal.decreases-loop-block
+decreases-loop-block l = length l.rest

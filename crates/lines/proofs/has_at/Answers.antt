@@ -1,10 +1,7 @@
--- `has_at` tells whether a byte is there. Assumes nothing.
-use mathlib.Core.Path.{sym}
-use Rattle.lines.proofs.Marks.{has_in, has_not}
+-- `has_at` is the definition's test. Assumes nothing.
+use mathlib.Core.Path.{◌∙◌}
+use Rattle.lines.proofs.Marks.{has_got}
 use Rattle.lines.proofs.has_at.Goals as goal
 
-pub returns-then-at-text : goal.returns-then-at-text
-returns-then-at-text c = sym (has_in _ _ _ c.if-at-text.true)
-
-pub returns-else-at-text : goal.returns-else-at-text
-returns-else-at-text c = sym (has_not _ _ _ c.if-at-text.false)
+pub returns : goal.returns
+returns c = c.eq.ensures ∙ has_got _ _ _ _ c.get.ensures.lookup

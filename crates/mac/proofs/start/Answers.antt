@@ -1,16 +1,10 @@
--- `start` refuses a key that is too long, with the empty key's state. Assumes nothing.
-use mathlib.Core.Path.{sym, ap, ◌∙◌}
-use Rattle.refusal.specs.Table.{accepted, too_long}
-use Rattle.mac.specs.declared.Code.{Code}
-use Rattle.mac.proofs.States.{start_takes, start_passes}
+-- `start` makes two states of the key's block, or has none. Assumes nothing.
+use borrow.Author.Rules.{rules}
+use Rattle.mac.proofs.States.{start_from, start_refused}
 use Rattle.mac.proofs.start.Goals as goal
 
-pub returns-then-key-gt-LONGEST : goal.returns-then-key-gt-LONGEST
-returns-then-key-gt-LONGEST c =
-    ap (λ (s : Code). record { number = too_long; state = s }) c.started.ensures
-    ∙ sym (start_passes _ c.if-key-gt-LONGEST.true)
+pub returns-in_err-block : goal.returns-in_err-block
+returns-in_err-block c = search (rules, start_refused c.args.key.now c.in_err-block.field-0.0 c.in_err-block.ensures)
 
 pub returns : goal.returns
-returns c =
-    ap (λ (s : Code). record { number = accepted; state = s }) c.started-2.ensures
-    ∙ sym (start_takes _ c.if-key-gt-LONGEST.false)
+returns c = search (rules, start_from c.args.key.now c.in_ok-block.block c.in_ok-block.ensures)

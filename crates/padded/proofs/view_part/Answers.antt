@@ -1,32 +1,51 @@
 -- `view_part` lends the bytes of the block's place. Assumes nothing.
-use mathlib.Core.Logic.{⊎_elim}
-use native.Mathlib.Omega.{arith}
-use Rattle.padded.proofs.Lending.{ends, end_within, message_part, buffer_part, message_address, buffer_address}
+use Rattle.std.proofs.Common.{refl, arith}
+use native.Mathlib.Nat.{zero-add}
+use Rattle.padded.proofs.Lending.{ends, message_part, buffer_part, message_address, buffer_address}
 use Rattle.padded.proofs.view_part.Goals as goal
 
-pub overflow_add-to : goal.overflow_add-to
-overflow_add-to c = let place = c.view_place-place in ⊎_elim (λ h. omega arith) (λ h. omega arith) (end_within _ _ _ place.result place.ensures)
+pub overflow_add-result : goal.overflow_add-result
+overflow_add-result c =
+    let there = rw c.in-Some-InMessage.field-0-is at c.in-Some-InMessage.ensures in
+    omega (arith, (ends _ _ _ _ there).of_message refl)
 
 pub slice_bounds-result-end : goal.slice_bounds-result-end
-slice_bounds-result-end c = (ends _ _ _ c.view_place-place.result c.view_place-place.ensures).of_message c.if-place-eq-IN_MESSAGE.true
+slice_bounds-result-end c =
+    let there = rw c.in-Some-InMessage.field-0-is at c.in-Some-InMessage.ensures in
+    (ends _ _ _ _ there).of_message refl
 
-pub slice_bounds-result-end-2 : goal.slice_bounds-result-end-2
-slice_bounds-result-end-2 c = (ends _ _ _ c.view_place-place.result c.view_place-place.ensures).of_buffer c.if-place-eq-IN_MESSAGE.false
+pub returns-in-Some-InMessage-clause-result_value : goal.returns-in-Some-InMessage-clause-result_value
+returns-in-Some-InMessage-clause-result_value c =
+    let there = rw c.in-Some-InMessage.field-0-is at c.in-Some-InMessage.ensures in
+    message_part _ _ _ _ there refl
 
-pub returns-then-place-eq-IN_MESSAGE : goal.returns-then-place-eq-IN_MESSAGE
-returns-then-place-eq-IN_MESSAGE c =
-    let test = c in
-    let place = test.view_place-place in
-    record {
-      result_value = message_part _ _ _ place.result place.ensures test.if-place-eq-IN_MESSAGE.true;
-      ref_ptr_value = message_address _ _ _ place.result place.ensures test.if-place-eq-IN_MESSAGE.true;
-    }
+pub returns-in-Some-InMessage-clause-ref_ptr_value : goal.returns-in-Some-InMessage-clause-ref_ptr_value
+returns-in-Some-InMessage-clause-ref_ptr_value c =
+    let there = rw c.in-Some-InMessage.field-0-is at c.in-Some-InMessage.ensures in
+    message_address _ _ _ _ there refl
 
-pub returns : goal.returns
-returns c =
-    let test = c in
-    let place = test.view_place-place in
-    record {
-      result_value = buffer_part _ _ _ place.result place.ensures test.if-place-eq-IN_MESSAGE.false;
-      ref_ptr_value = buffer_address _ _ _ place.result place.ensures test.if-place-eq-IN_MESSAGE.false;
-    }
+pub overflow_add-result-in-Some-InBuffer : goal.overflow_add-result-in-Some-InBuffer
+overflow_add-result-in-Some-InBuffer c =
+    let there = rw c.in-Some-InBuffer.field-0-is at c.in-Some-InBuffer.ensures in
+    omega (arith, (ends _ _ _ _ there).of_buffer (λ z. omega arith))
+
+pub slice_bounds-result-end-in-Some-InBuffer : goal.slice_bounds-result-end-in-Some-InBuffer
+slice_bounds-result-end-in-Some-InBuffer c =
+    let there = rw c.in-Some-InBuffer.field-0-is at c.in-Some-InBuffer.ensures in
+    (ends _ _ _ _ there).of_buffer (λ z. omega arith)
+
+pub returns-in-Some-InBuffer-clause-result_value : goal.returns-in-Some-InBuffer-clause-result_value
+returns-in-Some-InBuffer-clause-result_value c =
+    let there = rw c.in-Some-InBuffer.field-0-is at c.in-Some-InBuffer.ensures in
+    buffer_part _ _ _ _ there (λ z. omega arith)
+
+pub returns-in-Some-InBuffer-clause-ref_ptr_value : goal.returns-in-Some-InBuffer-clause-ref_ptr_value
+returns-in-Some-InBuffer-clause-ref_ptr_value c =
+    let there = rw c.in-Some-InBuffer.field-0-is at c.in-Some-InBuffer.ensures in
+    buffer_address _ _ _ _ there (λ z. omega arith)
+
+pub returns-in-None-clause-result_value : goal.returns-in-None-clause-result_value
+returns-in-None-clause-result_value c = buffer_part _ _ _ _ c.in-None.ensures (λ z. omega arith)
+
+pub returns-in-None-clause-ref_ptr_value : goal.returns-in-None-clause-ref_ptr_value
+returns-in-None-clause-ref_ptr_value c = rw zero-add at (buffer_address c.args.message c.args.buffer c.args.i _ c.in-None.ensures (λ z. omega arith))

@@ -1,5 +1,5 @@
+use Rattle.std.proofs.Common.{rules}
 use Rattle.standard.proofs.HashValue.{all_laid}
-use borrow.Author.Rules.{rules}
 use Rattle.standard.proofs.hash_value.Goals as goal
 
 pub returns : goal.returns

@@ -1,7 +1,7 @@
 -- `with_number` puts a number's figures behind a text. Assumes nothing.
 use mathlib.Core.Path.{ap, ◌∙◌}
 use borrow.Author.Rules.{rules}
-use Rattle.decimal.proofs.Laying.{from_within, last_figures}
+use Rattle.decimal.proofs.Laying.{from_within, long_twenty, last_figures}
 use Rattle.texts.specs.Texts.{with_part}
 use Rattle.texts.proofs.with_number.Goals as goal
 
@@ -12,7 +12,9 @@ slice_bounds-with-start c =
     search rules
 
 pub slice_bounds-with-count : goal.slice_bounds-with-count
-slice_bounds-with-count c = let f = c.figures_of-figures in from_within _ (search rules) f.result f.ensures
+slice_bounds-with-count c =
+    let f = c.figures_of-figures in
+    rw (long_twenty _ (search rules) f.result f.ensures) (from_within _ (search rules) f.result f.ensures)
 
 pub returns : goal.returns
 returns c =

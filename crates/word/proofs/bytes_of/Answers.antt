@@ -1,7 +1,5 @@
-use Rattle.std.proofs.Common.{refl}
-use Rattle.word.specs.BigEndian.{big_endian}
+use Rattle.word.proofs.BigEndian.{high_first}
 use Rattle.word.proofs.bytes_of.Goals as goal
 
 pub returns : goal.returns
-unfolding big_endian
-returns c = refl
+returns c = cc (high_first 4 c.args.w)

@@ -1,22 +1,26 @@
 -- `finish` refuses a state that is not in order, and else gives the inner's digest to the outer. Assumes nothing.
-use mathlib.Core.Path.{sym, ap, ◌∙◌}
-use Rattle.truth.proofs.Tests.{refuted, confirmed}
-use Rattle.hash.specs.Update.{update}
-use Rattle.hash.specs.Digests.{finish}
-use Rattle.hash.specs.declared.Digest.{Digest}
-use Rattle.hash.specs.declared.Updated.{Updated}
-use Rattle.mac.proofs.States.{finish_spoilt, finish_outer}
+use mathlib.Core.Path.{◌≡◌, sym, ◌∙◌}
+use mathlib.Core.Bool.{true}
+use borrow.Author.Rules.{rules}
+use Rattle.mac.specs.Codes.{in_order}
+use Rattle.mac.proofs.States.{finish_spoilt, inner_finishes, outer_takes, outer_finishes}
 use Rattle.mac.proofs.Code.finish.Goals as goal
 
-pub returns-then-not-in_order : goal.returns-then-not-in_order
-returns-then-not-in_order c = c.no_digest.ensures ∙ sym (finish_spoilt _ (refuted c.in_order.ensures c.if-not-in_order.true))
+pub returns-then-not-ordered : goal.returns-then-not-ordered
+returns-then-not-ordered c = sym (finish_spoilt c.args.self (search rules))
+
+pub returns-in_err-inside : goal.returns-in_err-inside
+returns-in_err-inside c =
+    let o : in_order c.args.self ≡ true = search rules in
+    absurd (inner_finishes c.args.self o c.finish.result c.finish.ensures _ c.in_err-inside.was)
+
+pub returns-in_err-update : goal.returns-in_err-update
+returns-in_err-update c =
+    let o : in_order c.args.self ≡ true = search rules in
+    absurd (outer_takes c.args.self o c.finish.result c.finish.ensures c.in_ok-inside.inside c.in_ok-inside.was _ c.in_err-update.ensures)
 
 pub returns : goal.returns
 returns c =
-    let back = c in
-    let tested = back in
-    let self = tested.args.self in
-    c.finish.ensures
-    ∙ ap (λ (u : Updated). finish u.state) c.update-taken.ensures
-    ∙ ap (λ (d : Digest). finish (update self.outer d.bytes).state) back.finish-inside.ensures
-    ∙ sym (finish_outer self (confirmed tested.in_order.ensures tested.if-not-in_order.false))
+    let o : in_order c.args.self ≡ true = search rules in
+    c.finish-2.ensures
+    ∙ outer_finishes c.args.self o c.finish.result c.finish.ensures c.in_ok-inside.inside c.in_ok-inside.was _ c.in_ok-update.ensures
