@@ -34,3 +34,4 @@ pub mod Writing
 pub mod Writer
 pub mod Door
 pub mod Lent
+pub mod Turning

@@ -1,34 +1,49 @@
 -- `lines`: any two results that meet a contract coincide; and a contract is what is promised, of its own arguments. Assumes nothing.
+use mathlib.Core.Path.{◌≡◌, sym, ◌∙◌}
 use mathlib.Core.Logic.Iff
-use Rattle.lines.specs.Reading.{good_stop, is_good, mark_after, word_after}
-use Rattle.lines.specs.Fields.{field_after, digest_after}
-use Rattle.lines.specs.Lines.{note_line, header_line}
-use Rattle.coincide.specs.Coincide.{Answers}
+use Rattle.lines.specs.Reading.{number_by, stop_of, mark_at as mark_of, word_at as word_of}
+use Rattle.lines.specs.Fields.{field_of, field_at as field_read, digest_of, digest_at as digest_read}
+use Rattle.lines.specs.Lines.{line_of, note_line as note_read, header_line as header_read}
+use Rattle.lines.proofs.Once.{stop_once, field_once, digest_once, line_once}
+use Rattle.coincide.specs.Coincide.{Coincide, Means}
 use Rattle.lines.specs.contracts
 use Rattle.lines.proofs
 
-pub good_stop_means : Answers contracts.good_stop.ended proofs.good_stop.Reads.Post (λ κs a. good_stop a.0)
-good_stop_means κs a r e = Iff.rfl
+pub mark_at : Coincide contracts.mark_at.ended proofs.mark_at.Reads.Post
+mark_at κs a x y e f p q = stop_once x y (p ∙ sym q)
 
-pub is_good_means : Answers contracts.is_good.ended proofs.is_good.Reads.Post (λ κs a. is_good a.0)
-is_good_means κs a r e = Iff.rfl
+pub mark_at_means : Means contracts.mark_at.ended proofs.mark_at.Reads.Post
+    (λ κs a r e. stop_of r ≡ mark_of a.0.now a.1.0 a.1.1.0 (number_by a.1.1.1.0))
+mark_at_means κs a r e = Iff.rfl
 
-pub mark_after_means : Answers contracts.mark_after.ended proofs.mark_after.Reads.Post
-    (λ κs a. mark_after a.0.now a.1.0 a.1.1.0 a.1.1.1.0)
-mark_after_means κs a r e = Iff.rfl
+pub word_at : Coincide contracts.word_at.ended proofs.word_at.Reads.Post
+word_at κs a x y e f p q = stop_once x y (p ∙ sym q)
 
-pub word_after_means : Answers contracts.word_after.ended proofs.word_after.Reads.Post
-    (λ κs a. word_after a.0.now a.1.0 a.1.1.0.now a.1.1.1.0)
-word_after_means κs a r e = Iff.rfl
+pub word_at_means : Means contracts.word_at.ended proofs.word_at.Reads.Post
+    (λ κs a r e. stop_of r ≡ word_of a.0.now a.1.0 a.1.1.0.now (number_by a.1.1.1.0))
+word_at_means κs a r e = Iff.rfl
 
-pub field_after_means : Answers contracts.field_after.ended proofs.field_after.Reads.Post (λ κs a. field_after a.0.now a.1.0 a.1.1.0)
-field_after_means κs a r e = Iff.rfl
+pub field_at : Coincide contracts.field_at.ended proofs.field_at.Reads.Post
+field_at κs a x y e f p q = field_once x y (p ∙ sym q)
 
-pub digest_after_means : Answers contracts.digest_after.ended proofs.digest_after.Reads.Post (λ κs a. digest_after a.0.now a.1.0)
-digest_after_means κs a r e = Iff.rfl
+pub field_at_means : Means contracts.field_at.ended proofs.field_at.Reads.Post (λ κs a r e. field_of r ≡ field_read a.0.now a.1.0 a.1.1.0)
+field_at_means κs a r e = Iff.rfl
 
-pub note_line_means : Answers contracts.note_line.ended proofs.note_line.Reads.Post (λ κs a. note_line a.0.now a.1.0)
+pub digest_at : Coincide contracts.digest_at.ended proofs.digest_at.Reads.Post
+digest_at κs a x y e f p q = digest_once x y (p ∙ sym q)
+
+pub digest_at_means : Means contracts.digest_at.ended proofs.digest_at.Reads.Post (λ κs a r e. digest_of r ≡ digest_read a.0.now a.1.0)
+digest_at_means κs a r e = Iff.rfl
+
+pub note_line : Coincide contracts.note_line.ended proofs.note_line.Reads.Post
+note_line κs a x y e f p q = line_once x y (p ∙ sym q)
+
+pub note_line_means : Means contracts.note_line.ended proofs.note_line.Reads.Post (λ κs a r e. line_of r ≡ note_read a.0.now a.1.0)
 note_line_means κs a r e = Iff.rfl
 
-pub header_line_means : Answers contracts.header_line.ended proofs.header_line.Reads.Post (λ κs a. header_line a.0.now a.1.0 a.1.1.0)
+pub header_line : Coincide contracts.header_line.ended proofs.header_line.Reads.Post
+header_line κs a x y e f p q = field_once x y (p ∙ sym q)
+
+pub header_line_means : Means contracts.header_line.ended proofs.header_line.Reads.Post
+    (λ κs a r e. field_of r ≡ header_read a.0.now a.1.0 a.1.1.0)
 header_line_means κs a r e = Iff.rfl

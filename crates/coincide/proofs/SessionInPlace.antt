@@ -6,6 +6,8 @@ use mathlib.Core.List.{[]}
 use Rattle.session.specs.Promises.{Row, AskRow}
 use Rattle.session.specs.declared.Session.{Session}
 use Rattle.session.proofs.Proved.{proved as session}
+use Rattle.sheet.specs.Judging.{verdict_of}
+use Rattle.sheet.proofs.Verdicts.{verdict_once}
 use Rattle.sheet_promises.specs.Promises.{SheetRow, Lists}
 use Rattle.coincide.proofs.Tells.{tells}
 use Rattle.coincide.proofs.Reading.{reads}
@@ -56,7 +58,7 @@ abbrev pub read_into_says : Says contracts.read_into.ended (λ M 𝓤. contracts
 read_into_says = record { claim = proofs.read_into.Reads.Post; stated = λ M 𝓤 𝓛 mem run κs a g r e. refl }
 
 pub read_into : CoincideAt contracts.read_into.ended Session (λ κs e. e.0.now) read_into_says.claim
-read_into κs a x y e f p q = (p.0 ∙ sym q.0, p.1 ∙ sym q.1)
+read_into κs a x y e f p q = (verdict_once x y (p.0 ∙ sym q.0), p.1 ∙ sym q.1)
 
-pub read_into_rows : Means contracts.read_into.ended read_into_says.claim (λ κs a r e. SheetRow a.1.0.now r e.0.now)
-read_into_rows κs a r e = reads a.1.0.now r e.0.now
+pub read_into_rows : Means contracts.read_into.ended read_into_says.claim (λ κs a r e. SheetRow a.1.0.now (verdict_of r) e.0.now)
+read_into_rows κs a r e = reads a.1.0.now (verdict_of r) e.0.now

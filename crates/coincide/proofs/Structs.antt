@@ -1,18 +1,13 @@
 -- Every public struct holds its fields and nothing else: the promises speak of fields, and one more could carry anything. Assumes nothing.
 use mathlib.Core.Path.{◌≡◌, refl}
 use Rattle.refusal.specs.declared.Written.{Written}
-use Rattle.units.specs.declared.InBits.{InBits}
-use Rattle.units.specs.declared.InBytes.{InBytes}
-use Rattle.units.specs.declared.InFrames.{InFrames}
 use Rattle.decimal.specs.declared.Numeral.{Numeral}
 use Rattle.decimal.specs.declared.Figures.{Figures}
 use Rattle.texts.specs.declared.Text.{Text}
 use Rattle.rules.specs.declared.Record.{Record}
-use Rattle.lines.specs.declared.Stop.{Stop}
-use Rattle.lines.specs.declared.Field.{Field}
-use Rattle.lines.specs.declared.DigestField.{DigestField}
+use Rattle.lines.specs.declared.Fault.{Fault}
+use Rattle.lines.specs.declared.Read.{Read}
 use Rattle.lines.specs.declared.Entry.{Entry}
-use Rattle.lines.specs.declared.NoteLine.{NoteLine}
 use Rattle.standard.specs.declared.Words.{Words}
 use Rattle.padded.specs.declared.Place.{Place}
 use Rattle.hash.specs.declared.Hash.{Hash}
@@ -26,28 +21,18 @@ use Rattle.slots.specs.declared.Answer.{Answer}
 use Rattle.slots.specs.declared.Step.{Step}
 use Rattle.session.specs.declared.Session.{Session}
 use Rattle.session.specs.declared.Delivered.{Delivered}
+use Rattle.sheet.specs.declared.Bad.{Bad}
 use Rattle.sheet.specs.declared.Verdict.{Verdict}
 use Rattle.sheet.specs.declared.Sheet.{Sheet}
 use Rattle.sheet.specs.declared.Start.{Start}
 use Rattle.sheet.specs.declared.Listing.{Listing}
 use Rattle.hash_in_place.specs.declared.Card.{Card}
 use Rattle.reader.specs.declared.SheetReader.{SheetReader}
-use Rattle.reader.specs.declared.HeaderRead.{HeaderRead}
-use Rattle.reader.specs.declared.LineRead.{LineRead}
 
 pub Written-holds : (x : Written) → x ≡ record { number = x.number; count = x.count }
 Written-holds x = refl
 
-pub InBits-holds : (x : InBits) → x ≡ record { exact = x.exact; bits = x.bits }
-InBits-holds x = refl
-
-pub InBytes-holds : (x : InBytes) → x ≡ record { exact = x.exact; bytes = x.bytes }
-InBytes-holds x = refl
-
-pub InFrames-holds : (x : InFrames) → x ≡ record { exact = x.exact; frames = x.frames }
-InFrames-holds x = refl
-
-pub Numeral-holds : (x : Numeral) → x ≡ record { found = x.found; at = x.at; value = x.value }
+pub Numeral-holds : (x : Numeral) → x ≡ record { value = x.value; next = x.next }
 Numeral-holds x = refl
 
 pub Figures-holds : (x : Figures) → x ≡ record { bytes = x.bytes; from = x.from }
@@ -56,24 +41,17 @@ Figures-holds x = refl
 pub Text-holds : (x : Text) → x ≡ record { bytes = x.bytes; length = x.length }
 Text-holds x = refl
 
-pub Record-holds : (x : Record)
-    → x ≡ record { length = x.length; loop_start = x.loop_start; loop_end = x.loop_end; digest = x.digest }
+pub Record-holds : (x : Record) → x ≡ record { length = x.length; loop_start = x.loop_start; loop_end = x.loop_end; digest = x.digest }
 Record-holds x = refl
 
-pub Stop-holds : (x : Stop) → x ≡ record { wanted = x.wanted; at = x.at }
-Stop-holds x = refl
+pub Fault-holds : (x : Fault) → x ≡ record { wanted = x.wanted; at = x.at }
+Fault-holds x = refl
 
-pub Field-holds : (x : Field) → x ≡ record { stop = x.stop; value = x.value }
-Field-holds x = refl
-
-pub DigestField-holds : (x : DigestField) → x ≡ record { stop = x.stop; digest = x.digest }
-DigestField-holds x = refl
+pub Read-holds : {T : Type 0} (x : Read T) → x ≡ record { value = x.value; next = x.next }
+Read-holds x = refl
 
 pub Entry-holds : (x : Entry) → x ≡ record { note = x.note; sample = x.sample }
 Entry-holds x = refl
-
-pub NoteLine-holds : (x : NoteLine) → x ≡ record { stop = x.stop; entry = x.entry }
-NoteLine-holds x = refl
 
 pub Words-holds : (x : Words) → x ≡ record { a = x.a; b = x.b; c = x.c; d = x.d; e = x.e; f = x.f; g = x.g; h = x.h }
 Words-holds x = refl
@@ -114,6 +92,9 @@ Session-holds x = refl
 pub Delivered-holds : (x : Delivered) → x ≡ record { answer = x.answer; session = x.session }
 Delivered-holds x = refl
 
+pub Bad-holds : (x : Bad) → x ≡ record { refusal = x.refusal; line = x.line }
+Bad-holds x = refl
+
 pub Verdict-holds : (x : Verdict) → x ≡ record { number = x.number; line = x.line }
 Verdict-holds x = refl
 
@@ -131,9 +112,3 @@ Card-holds x = refl
 
 pub SheetReader-holds : (x : SheetReader) → x ≡ record { text = x.text; at = x.at }
 SheetReader-holds x = refl
-
-pub HeaderRead-holds : (x : HeaderRead) → x ≡ record { field = x.field; rest = x.rest }
-HeaderRead-holds x = refl
-
-pub LineRead-holds : (x : LineRead) → x ≡ record { line = x.line; rest = x.rest }
-LineRead-holds x = refl

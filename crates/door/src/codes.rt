@@ -9,40 +9,40 @@ use mac::{Code, CodeUpdated};
 pub extern "C" fn vs_code_start(key: &[u8]) -> CodeUpdated
     ensures { result ≡ start key.now }
 {
-    mac::start(key)
+    CodeUpdated::started(key)
 }
 
 #[unsafe(no_mangle)]
 pub extern "C" fn vs_code_update(state: Code, piece: &[u8]) -> CodeUpdated
     ensures { result ≡ update state piece.now }
 {
-    state.update(piece)
+    CodeUpdated::told(state, state.update(piece))
 }
 
 #[unsafe(no_mangle)]
 pub extern "C" fn vs_code_finish(state: Code) -> Digest
     ensures { result ≡ finish state }
 {
-    state.finish()
+    state.finish().into()
 }
 
 #[unsafe(no_mangle)]
 pub extern "C" fn vs_code_of(key: &[u8], message: &[u8]) -> Digest
     ensures { result ≡ code_of key.now message.now }
 {
-    mac::code_of(key, message)
+    mac::code_of(key, message).into()
 }
 
 #[unsafe(no_mangle)]
 pub extern "C" fn vs_compare_code(state: Code, expected: &[u8]) -> Compared
     ensures { result ≡ compare_state state expected.now }
 {
-    state.matches(expected)
+    state.matches(expected).into()
 }
 
 #[unsafe(no_mangle)]
 pub extern "C" fn vs_compare_code_of(key: &[u8], message: &[u8], expected: &[u8]) -> Compared
     ensures { result ≡ compare_message key.now message.now expected.now }
 {
-    mac::matches(key, message, expected)
+    mac::matches(key, message, expected).into()
 }

@@ -10,7 +10,7 @@ ghost use Rattle.writing.specs.Writing.{sheet_written, with_sheet};
 
 use hash::Hash;
 use mac::Code;
-use refusal::Written;
+use refusal::{Written, number_of};
 use session::Session;
 use sheet::Verdict;
 use slots::Answer;
@@ -21,7 +21,7 @@ pub extern "C" fn vs_update_in_place(state: &mut Hash, piece: &[u8]) -> u8
     ensures { (result ≡ (updated state.old piece.now).number)
         × (state.new ≡ (updated state.old piece.now).state) }
 {
-    hash_in_place::update(state, piece)
+    number_of(hash_in_place::update(state, piece))
 }
 
 // Takes a piece into a lent code state, and answers the number.
@@ -30,7 +30,7 @@ pub extern "C" fn vs_code_update_in_place(state: &mut Code, piece: &[u8]) -> u8
     ensures { (result ≡ (code_updated state.old piece.now).number)
         × (state.new ≡ (code_updated state.old piece.now).state) }
 {
-    mac_in_place::update(state, piece)
+    number_of(mac_in_place::update(state, piece))
 }
 
 // A delivery into a lent session.
@@ -63,7 +63,7 @@ pub extern "C" fn vs_ready(session: &Session) -> bool
 pub extern "C" fn vs_sheet_read_in_place(session: &mut Session, text: &[u8]) -> Verdict
     ensures { (result ≡ (sheet_of text.now).verdict) × (session.new ≡ (sheet_of text.now).session) }
 {
-    session_in_place::read_into(session, text)
+    session_in_place::read_into(session, text).into()
 }
 
 // A keyed sheet, read into a lent session.
@@ -72,7 +72,7 @@ pub extern "C" fn vs_keyed_read_in_place(session: &mut Session, key: &[u8], text
     ensures { (result ≡ (keyed_of key.now text.now).verdict)
         × (session.new ≡ (keyed_of key.now text.now).session) }
 {
-    keyed_in_place::read_into(session, key, text)
+    keyed_in_place::read_into(session, key, text).into()
 }
 
 // The rank sheet of a lent session, which is only read, into a lent buffer.
@@ -81,5 +81,5 @@ pub extern "C" fn vs_sheet_write(session: &Session, buffer: &mut [u8]) -> Writte
     ensures { (result ≡ sheet_written session.now (length buffer.old))
         × (buffer.new ≡ with_sheet session.now buffer.old) }
 {
-    writer::write(session, buffer)
+    writer::write(session, buffer).into()
 }

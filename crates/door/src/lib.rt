@@ -26,7 +26,7 @@ pub use in_place::{
     vs_ready, vs_sheet_read_in_place, vs_sheet_write, vs_update_in_place,
 };
 use padded::Place;
-use refusal::Written;
+use refusal::{Written, number_of};
 use session::{Delivered, Session};
 use sheet::Sheet;
 use slots::Answer;
@@ -52,35 +52,35 @@ pub extern "C" fn vs_fresh() -> Hash
 pub extern "C" fn vs_update(state: Hash, piece: &[u8]) -> Updated
     ensures { result ≡ update state piece.now }
 {
-    state.update(piece)
+    Updated::told(state, state.update(piece))
 }
 
 #[unsafe(no_mangle)]
 pub extern "C" fn vs_finish(state: Hash) -> Digest
     ensures { result ≡ finish state }
 {
-    state.finish()
+    state.finish().into()
 }
 
 #[unsafe(no_mangle)]
 pub extern "C" fn vs_digest_of(message: &[u8]) -> Digest
     ensures { result ≡ digest message.now }
 {
-    hash::digest_of(message)
+    hash::digest_of(message).into()
 }
 
 #[unsafe(no_mangle)]
 pub extern "C" fn vs_compare_message(message: &[u8], expected: &[u8]) -> Compared
     ensures { result ≡ compare_message message.now expected.now }
 {
-    hash::matches(message, expected)
+    hash::matches(message, expected).into()
 }
 
 #[unsafe(no_mangle)]
 pub extern "C" fn vs_compare_state(state: Hash, expected: &[u8]) -> Compared
     ensures { result ≡ compare_state state expected.now }
 {
-    state.matches(expected)
+    state.matches(expected).into()
 }
 
 // Padded blocks
@@ -90,14 +90,14 @@ pub extern "C" fn vs_pad_write(message: &[u8], buffer: &mut [u8]) -> Written
     ensures value { result ≡ written message.now buffer.old }
     ensures buffer_after { buffer.new ≡ buffer_after message.now buffer.old }
 {
-    padding::write(message, buffer)
+    padding::write(message, buffer).into()
 }
 
 #[unsafe(no_mangle)]
 pub extern "C" fn vs_block_number(message: &[u8], buffer: &[u8], i: usize) -> u8
     ensures { result ≡ view_number message.now buffer.now i }
 {
-    padded::view_number(message, buffer, i)
+    number_of(padded::view_number(message, buffer, i))
 }
 
 // A part goes out as its place in what was lent.
@@ -105,14 +105,14 @@ pub extern "C" fn vs_block_number(message: &[u8], buffer: &[u8], i: usize) -> u8
 pub extern "C" fn vs_block_part(message: &[u8], buffer: &[u8], i: usize) -> Place
     ensures { result ≡ view_place message.now buffer.now i }
 {
-    padded::view_place(message, buffer, i)
+    padded::view_place(message, buffer, i).into()
 }
 
 #[unsafe(no_mangle)]
 pub extern "C" fn vs_remove_number(bytes: &[u8]) -> u8
     ensures { result ≡ remove_number bytes.now }
 {
-    padded::remove_number(bytes)
+    number_of(padded::remove_number(bytes))
 }
 
 // The part is the first so many of the bytes.

@@ -1,5 +1,6 @@
 // The static library that a C host links (host/veenstipper.h): the functions of `door`, exported to C. Each calls the one of its name, and
-// its contract is that one's.
+// its contract is that one's. They stand twice because the kit exports from a static library alone, and no theorem can speak of what stands
+// in one (docs/PORT.md).
 #![tactic(auto)]
 
 mod codes;

@@ -3,8 +3,7 @@ use Rattle.std.specs.Prelude.{ℕ, ◌-◌, List, [], ◌∷◌, Bool, cond, tru
 use Rattle.refusal.specs.Table.{accepted, too_long, no_mac_line, other_code}
 use Rattle.units.specs.Units.{longest}
 use Rattle.lines.specs.Reading.{word, separator, tab, lf, good_stop, is_good, has_at, mark_after, word_after}
-use Rattle.lines.specs.Fields.{digest_after}
-use Rattle.lines.specs.declared.DigestField.{DigestField}
+use Rattle.lines.specs.Fields.{DigestField, digest_fault, digest_after}
 use Rattle.mac.specs.Codes.{compare_message}
 use Rattle.session.specs.Sessions.{empty_session}
 use Rattle.sheet.specs.Judging.{verdict_at, sheet_of}
@@ -25,6 +24,10 @@ mac_line_at text at =
     let mac = word_after text (good_stop at) (0x4d ∷ 0x41 ∷ 0x43 ∷ []) word in
     let digits = digest_after text (mark_after text mac tab separator) in
     record { stop = mark_after text digits.stop lf separator; digest = digits.digest }
+
+-- the same line where it is well formed; a fault has no code
+abbrev pub whole : DigestField → DigestField
+whole line = cond (is_good line.stop) line (digest_fault line.stop)
 
 -- "10 for the text, 18": the code of the bytes before the line, held against the one in it
 unfoldable pub code_number : (key bytes code : List ℕ) → ℕ

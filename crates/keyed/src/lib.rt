@@ -3,102 +3,98 @@
 #![tactic(auto)]
 
 ghost use Rattle.std.specs.Prelude.{◌≡◌, ◌≤◌, length};
-ghost use Rattle.keyed.specs.Keyed.{begins_line, mac_line_at, code_number, mac_number, covered, keyed_verdict, keyed_of};
+ghost use Rattle.refusal.specs.Table.{number_of};
+ghost use Rattle.lines.specs.Fields.{digest_of};
+ghost use Rattle.sheet.specs.Judging.{verdict_of};
+ghost use Rattle.keyed.specs.Keyed.{begins_line, mac_line_at, whole, code_number, mac_number, covered, keyed_verdict, keyed_of};
 
-use hash::Compared;
-use lines::{DigestField, SEPARATOR, WORD};
-use refusal::{ACCEPTED, NO_MAC_LINE, OTHER_CODE, TOO_LONG};
-use sheet::{Sheet, Verdict};
+use lines::{Fault, LF, Read, TAB, Wanted};
+use refusal::Refusal;
+use sheet::{Bad, Sheet, Verdict};
 use units::LONGEST;
-
-const TAB: u8 = 9;
-
-const LF: u8 = 10;
 
 // The bytes of a MAC line, its LF too.
 const MAC_LINE: usize = 69;
 
 // Whether a line begins at a place: at the text's start, or behind an LF.
+#[tactic(auto, using(crate::proofs::Judging::begins_first, crate::proofs::Judging::begins_behind))]
 fn begins_line(text: &[u8], at: usize) -> bool
     requires { at ≤ length text.now }
     ensures { result ≡ begins_line text.now at }
 {
-    if at == 0 {
-        return true;
-    }
-    text[at - 1] == LF
+    at == 0 || text[at - 1] == LF
 }
 
 // A MAC line at a place: its code, and where it ends; or where it has a fault.
-fn mac_line(text: &[u8], at: usize) -> DigestField
-    ensures { result ≡ mac_line_at text.now at }
+#[tactic(auto, using(crate::proofs::Judging::mac_steps))]
+fn mac_line(text: &[u8], at: usize) -> Result<Read<[u8; 32]>, Fault>
+    ensures { digest_of result ≡ whole (mac_line_at text.now at) }
 {
-    let word = lines::word_after(text, lines::good_stop(at), b"MAC", WORD);
-    let tab = lines::mark_after(text, word, TAB, SEPARATOR);
-    let digits = lines::digest_after(text, tab);
-    let stop = lines::mark_after(text, digits.stop, LF, SEPARATOR);
-    let digest = digits.digest;
-    DigestField { stop, digest }
+    let word = lines::word_at(text, at, b"MAC", Wanted::Word)?;
+    let tab = lines::mark_at(text, word, TAB, Wanted::Separator)?;
+    let code = lines::digest_at(text, tab)?;
+    let next = lines::mark_at(text, code.next, LF, Wanted::Separator)?;
+    let value = code.value;
+    Ok(Read { value, next })
 }
 
 // Refusals 10 and 18: the bytes before the MAC line, and the code that stands in it.
-fn code_number(key: &[u8], bytes: &[u8], code: [u8; 32]) -> u8
-    ensures { result ≡ code_number key.now bytes.now code }
+#[tactic(auto, using(crate::proofs::Judging::code_steps))]
+fn code_number(key: &[u8], bytes: &[u8], code: &[u8; 32]) -> Result<(), Refusal>
+    ensures { number_of result ≡ code_number key.now bytes.now code.now }
 {
-    let c = mac::matches(key, bytes, &code);
-    if c.number != ACCEPTED {
-        return c.number;
+    if mac::matches(key, bytes, code)? {
+        Ok(())
+    } else {
+        Err(Refusal::OtherCode)
     }
-    if c.same { ACCEPTED } else { OTHER_CODE }
 }
 
 // Key, MAC line and code: refusals 10 for the key, 17, 10 for the text, 18. A key that is too long and a text under 69 bytes are refused
 // unread, a text that is too long after its last 70 bytes.
-pub fn mac_number(key: &[u8], text: &[u8]) -> u8
-    ensures { result ≡ mac_number key.now text.now }
+#[tactic(auto, using(crate::proofs::Judging::number_steps))]
+pub fn mac_number(key: &[u8], text: &[u8]) -> Result<(), Refusal>
+    ensures { number_of result ≡ mac_number key.now text.now }
 {
     if LONGEST < key.len() as u64 {
-        return TOO_LONG;
+        return Err(Refusal::TooLong);
     }
     if text.len() < MAC_LINE {
-        return NO_MAC_LINE;
+        return Err(Refusal::NoMacLine);
     }
     let at = text.len() - MAC_LINE;
     if !begins_line(text, at) {
-        return NO_MAC_LINE;
+        return Err(Refusal::NoMacLine);
     }
-    let line = mac_line(text, at);
-    if !lines::is_good(line.stop) {
-        return NO_MAC_LINE;
-    }
-    let code = line.digest;
-    code_number(key, &text[..at], code)
+    let Ok(line) = mac_line(text, at) else {
+        return Err(Refusal::NoMacLine);
+    };
+    code_number(key, &text[..at], &line.value)
 }
 
-// The bytes before the MAC line, where the number is no refusal (no text that was accepted is shorter than that line); else none: they are
+// The bytes before the MAC line, where that is not refused (no text that was accepted is shorter than that line); else none: they are
 // never read as a sheet.
-pub fn covered(text: &[u8], number: u8) -> &[u8]
-    ensures result_value { result.now ≡ covered text.now number }
+#[tactic(auto, using(crate::proofs::Judging::cover_steps))]
+pub fn covered(text: &[u8], mac: Result<(), Refusal>) -> &[u8]
+    ensures result_value { result.now ≡ covered text.now (number_of mac) }
     ensures ref_ptr_value { result.ref_ptr ≡ text.entry.ref_ptr }
 {
-    if number != ACCEPTED {
-        return &text[..0];
+    if mac.is_ok() && MAC_LINE <= text.len() {
+        &text[..text.len() - MAC_LINE]
+    } else {
+        &text[..0]
     }
-    if text.len() < MAC_LINE {
-        return &text[..0];
-    }
-    let count = text.len() - MAC_LINE;
-    &text[..count]
 }
 
-// The verdict of the keyed sheet, from that of the MAC line and that of the sheet before it.
-pub fn verdict_of(number: u8, sheet: Verdict) -> Verdict
-    ensures { result ≡ keyed_verdict number sheet }
+// The keyed sheet, judged: the MAC line, which is refused on line 0, and then the sheet before it.
+#[tactic(auto, using(crate::proofs::Judging::verdict_steps))]
+pub fn verdict_of(mac: Result<(), Refusal>, sheet: Result<(), Bad>) -> Result<(), Bad>
+    ensures { verdict_of result ≡ keyed_verdict (number_of mac) (verdict_of sheet) }
 {
-    if number != ACCEPTED {
-        return Verdict { number, line: 0 };
+    match mac {
+        Ok(()) => sheet,
+        Err(refusal) => Err(Bad { refusal, line: 0 }),
     }
-    sheet
 }
 
 // A keyed sheet: its MAC line is judged, and then what it covers is read, step by step as `sheet::read` does. (With a call of that from
@@ -106,13 +102,13 @@ pub fn verdict_of(number: u8, sheet: Verdict) -> Verdict
 pub fn read(key: &[u8], text: &[u8]) -> Sheet
     ensures { result ≡ keyed_of key.now text.now }
 {
-    let number = mac_number(key, text);
-    let rest = covered(text, number);
-    let v = sheet::judged(rest, 0);
-    let from = sheet::start_of(sheet::header_at(rest, 0), v);
+    let mac = mac_number(key, text);
+    let rest = covered(text, mac);
+    let judged = sheet::judged(rest, 0);
+    let from = sheet::start_of(sheet::header_at(rest, 0), judged);
     let session = sheet::filled(rest, from.at, from.notes, from.listed);
     Sheet {
-        verdict: verdict_of(number, v),
+        verdict: Verdict::from(verdict_of(mac, judged)),
         session,
     }
 }

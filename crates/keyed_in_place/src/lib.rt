@@ -2,18 +2,18 @@
 #![tactic(auto)]
 
 ghost use Rattle.std.specs.Prelude.{◌≡◌};
+ghost use Rattle.sheet.specs.Judging.{verdict_of};
 ghost use Rattle.keyed.specs.Keyed.{keyed_of};
 
 use session::Session;
-use sheet::Verdict;
+use sheet::Bad;
 
 // Judges the MAC line, and reads what it covers. Of a refused MAC line that is nothing, and reading nothing lists no note.
-pub fn read_into(s: &mut Session, key: &[u8], text: &[u8]) -> Verdict
-    ensures { (result ≡ (keyed_of key.now text.now).verdict)
+pub fn read_into(s: &mut Session, key: &[u8], text: &[u8]) -> Result<(), Bad>
+    ensures { (verdict_of result ≡ (keyed_of key.now text.now).verdict)
         × (s.new ≡ (keyed_of key.now text.now).session) }
 {
-    let number = keyed::mac_number(key, text);
-    let sheet = keyed::covered(text, number);
-    let v = session_in_place::read_into(s, sheet);
-    keyed::verdict_of(number, v)
+    let mac = keyed::mac_number(key, text);
+    let judged = session_in_place::read_into(s, keyed::covered(text, mac));
+    keyed::verdict_of(mac, judged)
 }

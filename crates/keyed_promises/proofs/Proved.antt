@@ -1,4 +1,5 @@
 -- The crate's promises, proved. Assumes nothing.
+use Rattle.lines.specs.Fields.{DigestField}
 use Prim.Native.Nat.{ℕ, ◌≤◌}
 use mathlib.Core.Path.{◌≡◌, refl, sym, ap, ◌∙◌}
 use mathlib.Core.List.{List, []}
@@ -6,7 +7,6 @@ use native.Mathlib.Omega.{arith}
 use lib.ListN.{length, length-append}
 use Rattle.refusal.specs.Table.{accepted}
 use Rattle.units.specs.Units.{longest}
-use Rattle.lines.specs.declared.DigestField.{DigestField}
 use Rattle.lines.specs.declared.Entry.{Entry}
 use Rattle.session.specs.declared.Session.{Session}
 use Rattle.sheet.specs.declared.Verdict.{Verdict}

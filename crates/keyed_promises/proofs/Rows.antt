@@ -1,4 +1,5 @@
 -- Each row's answer is the reader's, and every key and text have a row. Assumes nothing.
+use Rattle.lines.specs.Fields.{DigestField}
 use Prim.Native.Nat.{ℕ, ◌+◌, ◌-◌, ◌≤◌, ◌<◌}
 use mathlib.Core.Path.{◌≡◌, refl, sym, ap, ap₂, ◌∙◌, subst}
 use mathlib.Core.Logic.{◌↔◌, ◌⊎◌, inl, inr}
@@ -15,7 +16,6 @@ use Rattle.units.specs.Units.{longest}
 use Rattle.hash.specs.declared.Digest.{Digest}
 use Rattle.hash.specs.declared.Compared.{Compared}
 use Rattle.lines.specs.Reading.{is_good}
-use Rattle.lines.specs.declared.DigestField.{DigestField}
 use Rattle.lines.specs.declared.Entry.{Entry}
 use Rattle.mac.specs.Hmac.{hmac}
 use Rattle.mac.specs.Codes.{compare_message}

@@ -2,17 +2,17 @@
 #![tactic(auto)]
 
 ghost use Rattle.std.specs.Prelude.{◌≡◌};
+ghost use Rattle.refusal.specs.Table.{number_of};
 ghost use Rattle.mac.specs.Codes.{update as updated};
 
 use mac::Code;
+use refusal::Refusal;
 
-// Takes a piece into a lent code state, and answers the number.
-pub fn update(c: &mut Code, piece: &[u8]) -> u8
-    ensures { (result ≡ (updated c.old piece.now).number)
+// Takes a piece into a lent code state.
+pub fn update(c: &mut Code, piece: &[u8]) -> Result<(), Refusal>
+    ensures { (number_of result ≡ (updated c.old piece.now).number)
         × (c.new ≡ (updated c.old piece.now).state) }
 {
-    let before = *c;
-    let after = before.update(piece);
-    *c = after.state;
-    after.number
+    *c = c.update(piece)?;
+    Ok(())
 }

@@ -1,11 +1,26 @@
 -- A reader that "goes through the lent text keeping its place in it": what it reads is what the sheet's definitions read at its place.
-use Rattle.std.specs.Prelude.{ℕ, List}
+use Rattle.std.specs.Prelude.{ℕ, List, Result, Ok, Err}
 use Rattle.std.specs.Borrow.{Bor}
-use Rattle.lines.specs.Lines.{note_line}
+use Rattle.lines.specs.declared.Fault.{Fault}
+use Rattle.lines.specs.declared.Read.{Read}
+use Rattle.lines.specs.Fields.{Field}
+use Rattle.lines.specs.Lines.{NoteLine, note_line}
 use Rattle.sheet.specs.Judging.{header_at}
 use Rattle.reader.specs.declared.SheetReader.{SheetReader}
-use Rattle.reader.specs.declared.HeaderRead.{HeaderRead}
-use Rattle.reader.specs.declared.LineRead.{LineRead}
+
+-- what was read, and the reader past it: at the fault's place where there is one
+pub record HeaderRead : Type 0 where
+  pub field : Field
+  pub rest : SheetReader
+
+pub record LineRead : Type 0 where
+  pub line : NoteLine
+  pub rest : SheetReader
+
+-- where a step of the code stopped
+abbrev pub place_of : {A : Type 0} → Result (Read A) Fault → ℕ
+place_of (Ok read) = read.next
+place_of (Err fault) = fault.at
 
 -- at the text's start
 unfoldable pub begin_of : Bor (List ℕ) → SheetReader

@@ -1,13 +1,14 @@
-// The reader of rank sheets: it holds the text and its place in it. Each function takes it apart and calls a covered one on the text and
-// the place.
+// The reader of rank sheets: it holds the text and its place in it. Each method calls a function on the text and the place, and moves on.
 #![tactic(auto)]
 
 ghost use Rattle.std.specs.Prelude.{◌≡◌};
-ghost use Rattle.reader.specs.Reader.{begin_of, header_read, line_read};
-ghost use Rattle.sheet.specs.Judging.{judged};
+ghost use Rattle.lines.specs.Fields.{field_of};
+ghost use Rattle.lines.specs.Lines.{line_of};
+ghost use Rattle.reader.specs.Reader.{begin_of, header_read, line_read, place_of};
+ghost use Rattle.sheet.specs.Judging.{verdict_of, judged};
 
-use lines::{Field, NoteLine};
-use sheet::Verdict;
+use lines::{Entry, Fault, Read};
+use sheet::Bad;
 
 // A reader of a sheet: the text, and the place in it where the reader stands.
 #[derive(Clone, Copy)]
@@ -16,53 +17,49 @@ pub struct SheetReader<'a> {
     pub at: usize,
 }
 
-// What was read, and the reader past it: at the fault's place where there is one.
-#[derive(Clone, Copy)]
-pub struct HeaderRead<'a> {
-    pub field: Field,
-    pub rest: SheetReader<'a>,
-}
-
-#[derive(Clone, Copy)]
-pub struct LineRead<'a> {
-    pub line: NoteLine,
-    pub rest: SheetReader<'a>,
-}
-
-// A reader at the text's start.
-pub fn begin<'a>(text: &'a [u8]) -> SheetReader<'a>
-    ensures { result ≡ begin_of text.entry }
+// Where a step leaves the reader: past what was read, or at the fault's place.
+fn place<T>(read: &Result<Read<T>, Fault>) -> usize
+    ensures { result ≡ place_of read.now }
 {
-    SheetReader { text, at: 0 }
-}
-
-// The first bad line of the sheet that begins where the reader stands.
-pub fn judge<'a>(r: SheetReader<'a>) -> Verdict
-    ensures { result ≡ judged r.entry.text.now r.entry.at }
-{
-    sheet::judged(r.text, r.at)
-}
-
-// The header where the reader stands, and the reader past it.
-pub fn header<'a>(r: SheetReader<'a>) -> HeaderRead<'a>
-    ensures { result ≡ header_read r.entry }
-{
-    let field = sheet::header_at(r.text, r.at);
-    let at = field.stop.at;
-    HeaderRead {
-        field,
-        rest: SheetReader { text: r.text, at },
+    match read {
+        Ok(read) => read.next,
+        Err(fault) => fault.at,
     }
 }
 
-// The next note line, and the reader past it.
-pub fn next_line<'a>(r: SheetReader<'a>) -> LineRead<'a>
-    ensures { result ≡ line_read r.entry }
-{
-    let line = lines::note_line(r.text, r.at);
-    let at = line.stop.at;
-    LineRead {
-        line,
-        rest: SheetReader { text: r.text, at },
+impl<'a> SheetReader<'a> {
+    // A reader at the text's start.
+    #[tactic(auto, unfolding(crate::specs::Reader::begin_of))]
+    pub fn begin(text: &'a [u8]) -> SheetReader<'a>
+        ensures { result ≡ begin_of text.entry }
+    {
+        SheetReader { text, at: 0 }
+    }
+
+    // The sheet that begins where the reader stands, judged: its first bad line, where one is.
+    pub fn judge(&self) -> Result<(), Bad>
+        ensures { verdict_of result ≡ judged self.now.text.now self.now.at }
+    {
+        sheet::judged(self.text, self.at)
+    }
+
+    // The header where the reader stands.
+    #[tactic(auto, unfolding(crate::specs::Reader::header_read, crate::specs::Reader::moved))]
+    pub fn header(&mut self) -> Result<Read<u32>, Fault>
+        ensures { (field_of result ≡ (header_read self.old).field) × (self.new ≡ (header_read self.old).rest) }
+    {
+        let header = sheet::header_at(self.text, self.at);
+        self.at = place(&header);
+        header
+    }
+
+    // The next note line.
+    #[tactic(auto, unfolding(crate::specs::Reader::line_read, crate::specs::Reader::moved))]
+    pub fn next_line(&mut self) -> Result<Read<Entry>, Fault>
+        ensures { (line_of result ≡ (line_read self.old).line) × (self.new ≡ (line_read self.old).rest) }
+    {
+        let line = lines::note_line(self.text, self.at);
+        self.at = place(&line);
+        line
     }
 }

@@ -17,9 +17,6 @@ pub struct Session {
     pub opened: u8,
 }
 
-// The open count goes no further.
-const NOTES: u8 = 32;
-
 // What a delivery answers, and the session after it.
 #[repr(C)]
 #[derive(Clone, Copy)]
@@ -29,12 +26,12 @@ pub struct Delivered {
 }
 
 // A session with no note listed.
+#[tactic(auto, unfolding(crate::specs::Sessions::empty_session))]
 pub fn empty_session() -> Session
     ensures { result ≡ empty_session }
 {
-    let slot = slots::empty_slot();
     Session {
-        slots: [slot; 32],
+        slots: [slots::empty_slot(); 32],
         listed: 0,
         opened: 0,
     }
@@ -51,23 +48,20 @@ pub fn slot_index(note: u64) -> usize
     }
 }
 
-// The open count, by a note's status before and after what was done to it.
+// The open count, by a note's status before and after what was done to it. It goes no further than the notes.
+#[tactic(auto, unfolding(crate::specs::Light::open_after, crate::specs::Light::opens, crate::specs::Light::one_more))]
 pub fn open_after(count: u8, before: u8, after: u8) -> u8
     ensures { result ≡ open_after count before after }
 {
-    if before == OPENED {
-        return count;
+    if before != OPENED && after == OPENED && count < rules::NOTES as u8 {
+        count + 1
+    } else {
+        count
     }
-    if after != OPENED {
-        return count;
-    }
-    if count >= NOTES {
-        return count;
-    }
-    count + 1
 }
 
 // The light, by the two counts alone.
+#[tactic(auto, unfolding(crate::specs::Light::all_open))]
 pub fn all_open(listed: u8, opened: u8) -> bool
     ensures { result ≡ all_open listed opened }
 {
@@ -81,12 +75,10 @@ impl Session {
         let index = slot_index(note);
         let slot = self.slots[index];
         let step = slots::deliver_at(slot, note, piece);
-        let answer = step.answer;
-        let after = step.slot;
-        self.slots[index] = after;
-        self.opened = open_after(self.opened, slot.status, after.status);
+        self.slots[index] = step.slot;
+        self.opened = open_after(self.opened, slot.status, step.slot.status);
         Delivered {
-            answer,
+            answer: step.answer,
             session: self,
         }
     }
@@ -95,11 +87,11 @@ impl Session {
         ensures { result ≡ ask self note }
     {
         let index = slot_index(note);
-        let slot = self.slots[index];
-        slots::ask_at(slot, note)
+        slots::ask_at(self.slots[index], note)
     }
 
     // Whether every listed note is open: the rank-ready light.
+    #[tactic(auto, unfolding(crate::specs::Light::ready))]
     pub fn ready(self) -> bool
         ensures { result ≡ ready self }
     {

@@ -1,4 +1,5 @@
 -- Note after note is listed. Assumes nothing.
+use Rattle.lines.specs.Fields.{Field}
 use Prim.Native.Nat.{ℕ, zero, suc, ◌+◌, ◌-◌, ◌%◌, ◌<◌, ◌≤◌}
 use mathlib.Core.Path.{◌≡◌, refl, sym, ap, ◌∙◌}
 use mathlib.Core.Logic.{⊎_elim}
@@ -18,7 +19,6 @@ use Rattle.session.specs.declared.Session.{Session}
 use Rattle.session.proofs.Putting.{index_lt}
 use Rattle.sheet.specs.Judging.{header_at, header_number, verdict_at, judged, entries_at, with_notes, session_of, sheet_of}
 use Rattle.sheet.specs.Filling.{start, listing, with_listed}
-use Rattle.lines.specs.declared.Field.{Field}
 use Rattle.lines.specs.declared.Entry.{Entry}
 use Rattle.sheet.specs.declared.Verdict.{Verdict}
 use Rattle.sheet.specs.declared.Start.{Start}
@@ -69,6 +69,8 @@ pub lists_all : (text : List ℕ) (notes i from at listed : ℕ) (slots : List S
 lists_all text notes i from at listed slots done e =
     let none : notes - i ≡ 0 = omega arith in
     rw (e, none) (ap (λ (s : Session). with_listed s listed) (sym (lists_none (of_slots slots) text at)))
+
+pub ruleset listing_steps = (listing_lt, lists_one)
 
 -- there are as many entries as are read, and listing them touches no count
 pub as_many_entries : (notes : ℕ) (text : List ℕ) (at : ℕ) → length (entries_at notes text at) ≡ notes

@@ -1,21 +1,36 @@
 -- What is judged of a line, and of the lines in order. Assumes nothing.
+use Rattle.lines.specs.Fields.{Field, field_of}
 use Prim.Native.Nat.{ℕ, suc, ◌+◌, ◌-◌, ◌<◌, ◌≤◌}
-use mathlib.Core.Path.{◌≡◌, refl, ◌∙◌}
+use mathlib.Core.Path.{◌≡◌, refl, sym, ap, ◌∙◌}
+use mathlib.Core.Logic.{⊎_elim}
 use mathlib.Core.List.{List}
 use mathlib.Core.Bool.{Bool, true, false}
-use native.Mathlib.Nat.{sub-zero}
 use native.Mathlib.Omega.{arith}
 use borrow.Author.Tests.{lt-ltb, le-ltb, eq-eqb, ne_eqb}
+use lib.Dec.{eqb}
 use lib.ListN.{length}
-use Rattle.refusal.specs.Table.{accepted, form, count_or_note, bad_length, bad_loop}
+use Rattle.std.specs.Result.{is_ok}
+use Rattle.sheet.specs.declared.Bad.{Bad}
+use Rattle.sheet.specs.declared.Verdict.{Verdict}
+use Rattle.std.specs.Prelude.{⊤, Result, Ok, Err}
+use Rattle.truth.proofs.Tests.{either}
+use Rattle.refusal.specs.declared.Refusal.{Refusal}
+use Rattle.refusal.specs.declared.Refusal.TheVariants
+use Rattle.refusal.proofs.Telling.{one_number, not_accepted}
+use Rattle.refusal.specs.Table.{number_by, number_of, accepted, form, count_or_note, bad_length, bad_loop}
 use Rattle.rules.proofs.Rules.{count_rule_is}
 use Rattle.rules.specs.Rules.{count_rule, note_rule, good_length, good_loop}
 use Rattle.lines.specs.Reading.{is_good}
-use Rattle.lines.specs.Lines.{note_line, header_line, edition1}
-use Rattle.sheet.specs.Judging.{header_number, entry_number, note_number, all_good, verdict_at, judged_notes, judged}
-use Rattle.lines.specs.declared.Field.{Field}
+use Rattle.lines.specs.Lines.{NoteLine, line_of, note_line, header_line, edition1}
+use Rattle.sheet.specs.Judging.{header_at, header_number, entry_number, note_number, header_judged, entry_judged, accepted_read, line_judged, all_good, verdict_at, verdict_of, judged_notes, judged}
 use Rattle.lines.specs.declared.Entry.{Entry}
-use Rattle.lines.specs.declared.NoteLine.{NoteLine}
+use Rattle.lines.specs.declared.Fault.{Fault}
+use Rattle.lines.specs.declared.Read.{Read}
+use Rattle.lines.proofs.Marks.{wants}
+
+-- a test is true or false
+by_cases : {P : Type 0} (b : Bool) → (b ≡ true → P) → (b ≡ false → P) → P
+by_cases b holds fails = ⊎_elim holds fails (either b)
 
 -- the number of a header
 module _ (h : Field) where
@@ -101,30 +116,118 @@ pub nothing_follows : (text : List ℕ) (at line last : ℕ) → length text ≤
 unfolding judged_notes all_good verdict_at
 nothing_follows text at line last h = simp (le-ltb at (length text) h)
 
--- the same in the loop, which has judged i note lines of so many
-pub none_yet : (text : List ℕ) (from : ℕ) (h : Field) (number : ℕ) → h ≡ header_line text from edition1 → number ≡ header_number h → number ≡ accepted
-    → judged text from ≡ judged_notes (h.value - 0) text h.stop.at (0 + 2) 0
-none_yet text from h number eh en good = rw (sub-zero h.value) (notes_decide text from h number eh en good)
+-- as the code judges: what it answers of a line is told by the line's number
+pub header_numbered : (h : Result (Read ℕ) Fault) → number_of (header_judged h) ≡ header_number (field_of h)
+unfolding header_judged header_number
+header_numbered (Ok h) = by_cases (count_rule h.value) (λ good. simp good) (λ bad. simp bad)
+header_numbered (Err fault) = simp (wants fault.wanted)
 
-module _ (text : List ℕ) (count i at last : ℕ) (more : i < count) (l : NoteLine) (el : l ≡ note_line text at) (number : ℕ) (en : number ≡ note_number last l) where
-  left : count - i ≡ suc (count - (i + 1))
+pub entry_numbered : (last : ℕ) (e : Entry) → number_of (entry_judged last e) ≡ entry_number last e
+unfolding entry_judged entry_number
+entry_numbered last e =
+    by_cases (note_rule last e.note)
+    (λ note.
+    by_cases (good_length e.sample)
+    (λ size. by_cases (good_loop e.sample) (λ loop. simp (note, size, loop)) (λ loop. simp (note, size, loop)))
+    (λ size. simp (note, size)))
+    (λ note. simp note)
+
+pub line_numbered : (last : ℕ) (l : Result (Read Entry) Fault) → number_of (line_judged last l) ≡ note_number last (line_of l)
+unfolding line_judged note_number
+line_numbered last (Ok l) = accepted_number l (entry_judged last l.value) ∙ entry_numbered last l.value
+  where
+    accepted_number : (l : Read Entry) (r : Result ⊤ Refusal) → number_of (accepted_read l r) ≡ number_of r
+    accepted_number l (Ok _) = refl
+    accepted_number l (Err refusal) = refl
+line_numbered last (Err fault) = simp (wants fault.wanted)
+
+-- and what is accepted is what was read
+pub header_read : (h : Result (Read ℕ) Fault) (read : Read ℕ) → Ok read ≡ header_judged h → h ≡ Ok read
+unfolding header_judged
+header_read (Ok h) read e =
+    by_cases (count_rule h.value)
+    (λ good. let same : ◌≡◌ {A = Result (Read ℕ) Refusal} (Ok read) (Ok h) = e ∙ simp good in cc)
+    (λ bad. let other : ◌≡◌ {A = Result (Read ℕ) Refusal} (Ok read) (Err TheVariants.CountOrNote) = e ∙ simp bad in cc)
+header_read (Err fault) read e = cc
+
+pub line_read : (last : ℕ) (l : Result (Read Entry) Fault) (read : Read Entry) → Ok read ≡ line_judged last l → l ≡ Ok read
+unfolding line_judged
+line_read last (Ok l) read e = of_entry (entry_judged last l.value) e
+  where
+    of_entry : (r : Result ⊤ Refusal) → Ok read ≡ accepted_read l r → ◌≡◌ {A = Result (Read Entry) Fault} (Ok l) (Ok read)
+    of_entry (Ok _) f = cc
+    of_entry (Err refusal) f = cc
+line_read last (Err fault) read e = cc
+
+-- a sheet is accepted where the code found no bad line
+pub verdict_good : (judged : Result ⊤ Bad) → eqb (verdict_of judged).number accepted ≡ is_ok judged
+unfolding verdict_of all_good verdict_at
+verdict_good (Ok _) = refl
+verdict_good (Err bad) = ne_eqb (number_by bad.refusal) accepted (not_accepted bad.refusal)
+
+-- and what a host is told determines what the code answered
+pub verdict_once : (x y : Result ⊤ Bad) → verdict_of x ≡ verdict_of y → x ≡ y
+unfolding verdict_of all_good verdict_at
+verdict_once (Ok _) (Ok _) e = refl
+verdict_once (Ok _) (Err b) e = absurd (not_accepted b.refusal (sym (ap (λ (v : Verdict). v.number) e)))
+verdict_once (Err a) (Ok _) e = absurd (not_accepted a.refusal (ap (λ (v : Verdict). v.number) e))
+verdict_once (Err a) (Err b) e =
+    let refusal : a.refusal ≡ b.refusal = one_number a.refusal b.refusal (ap (λ (v : Verdict). v.number) e) in
+    let line : a.line ≡ b.line = ap (λ (v : Verdict). v.line) e in
+    λ i. Err (record { refusal = refusal i; line = line i })
+
+-- in the code's steps: line 1 is refused, or there are note lines
+module _ (text : List ℕ) (from : ℕ) (h : Result (Read ℕ) Fault) (eh : field_of h ≡ header_line text from edition1) where
+  pub no_header : (r : Refusal) → Err r ≡ header_judged h → verdict_of (Err (record { refusal = r; line = 1 })) ≡ judged text from
+  unfolding verdict_of
+  no_header r e =
+      let number : number_by r ≡ header_number (field_of h) = ap number_of e ∙ header_numbered h in
+      header_decides text from (field_of h) (number_by r) eh number (not_accepted r)
+
+  module _ (read : Read ℕ) (e : Ok read ≡ header_judged h) where
+    number : accepted ≡ header_number (field_of h)
+    number = ap number_of e ∙ header_numbered h
+
+    pub few_lines : read.value ≤ 32
+    few_lines = let same : field_of h ≡ field_of (Ok read) = ap field_of (header_read h read e) in rw (← ap (λ (f : Field). f.value) same) (most_notes (field_of h) accepted number refl)
+
+    pub first_line : judged text from ≡ judged_notes (read.value + 2 - 2) text read.next 2 0
+    first_line =
+        let same : field_of h ≡ field_of (Ok read) = ap field_of (header_read h read e) in
+        let notes : read.value + 2 - 2 ≡ read.value = omega arith in
+        notes_decide text from (field_of h) accepted eh number refl ∙ rw (same, notes)
+
+-- a note line is refused, or the next one follows; the lines are numbered up to an end
+module _ (text : List ℕ) (end line at last : ℕ) (l : Result (Read Entry) Fault) (el : line_of l ≡ note_line text at) (more : line < end) where
+  left : end - line ≡ suc (end - (line + 1))
   left = omega arith
 
-  pub this_of_many : (number ≡ accepted → ⊥) → judged_notes (count - i) text at (i + 2) last ≡ verdict_at number (i + 2)
-  this_of_many bad = rw left (this_decides text _ at (i + 2) last l el number en bad)
+  pub this_line : (r : Refusal) → Err r ≡ line_judged last l → verdict_of (Err (record { refusal = r; line = line })) ≡ judged_notes (end - line) text at line last
+  unfolding verdict_of
+  this_line r e =
+      let number : number_by r ≡ note_number last (line_of l) = ap number_of e ∙ line_numbered last l in
+      rw left (sym (this_decides text _ at line last (line_of l) el (number_by r) number (not_accepted r)))
 
-  pub rest_of_many : number ≡ accepted
-      → judged_notes (count - i) text at (i + 2) last ≡ judged_notes (count - (i + 1)) text l.stop.at (i + 1 + 2) l.entry.note
-  rest_of_many good =
-      let next : i + 2 + 1 ≡ i + 1 + 2 = omega arith in
-      rw (left, ← next) (rest_decides text _ at (i + 2) last l el number en good)
+  pub next_line : (read : Read Entry) → Ok read ≡ line_judged last l
+      → judged_notes (end - line) text at line last ≡ judged_notes (end - (line + 1)) text read.next (line + 1) read.value.note
+  next_line read e =
+      let number : accepted ≡ note_number last (line_of l) = ap number_of e ∙ line_numbered last l in
+      let same : line_of l ≡ line_of (Ok read) = ap line_of (line_read last l read e) in
+      rw left (rest_decides text _ at line last (line_of l) el accepted number refl ∙ rw same)
 
-module _ (text : List ℕ) (count i at last : ℕ) (done : count ≤ i) where
-  none : count - i ≡ 0
+-- after the last of them
+module _ (text : List ℕ) (end line at last : ℕ) (done : end ≤ line) where
+  none : end - line ≡ 0
   none = omega arith
 
-  pub text_after_all : at < length text → judged_notes (count - i) text at (i + 2) last ≡ verdict_at form (i + 2)
-  text_after_all h = rw none (text_follows text at (i + 2) last h)
+  pub text_after_lines : line ≤ end → at < length text → verdict_of (Err (record { refusal = TheVariants.Form; line = end })) ≡ judged_notes (end - line) text at line last
+  unfolding verdict_of
+  text_after_lines within h =
+      let same : end ≡ line = omega arith in
+      rw (none, same) (sym (text_follows text at line last h))
 
-  pub end_after_all : length text ≤ at → judged_notes (count - i) text at (i + 2) last ≡ verdict_at accepted 0
-  end_after_all h = rw none (nothing_follows text at (i + 2) last h)
+  pub end_of_lines : length text ≤ at → verdict_of (Ok tt) ≡ judged_notes (end - line) text at line last
+  unfolding verdict_of all_good
+  end_of_lines h = rw none (sym (nothing_follows text at line last h))
+
+pub ruleset line_steps = (no_header, few_lines, first_line, this_line, next_line, text_after_lines, end_of_lines)

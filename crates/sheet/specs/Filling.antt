@@ -1,11 +1,11 @@
 -- What a sheet's lines put into a session, step by step: by value and in place.
+use Rattle.lines.specs.Fields.{Field}
 use Rattle.std.specs.Prelude.{ℕ, ◌%◌, List, cond, eqb}
 use Rattle.refusal.specs.Table.{accepted}
 use Rattle.slots.specs.Slots.{waiting_slot}
 use Rattle.session.specs.Sessions.{slot_index}
 use Rattle.session.specs.declared.Session.{Session}
 use Rattle.lines.specs.Lines.{note_line}
-use Rattle.lines.specs.declared.Field.{Field}
 use Rattle.sheet.specs.declared.Verdict.{Verdict}
 use Rattle.sheet.specs.declared.Listing.{Listing}
 use Rattle.sheet.specs.declared.Start.{Start}

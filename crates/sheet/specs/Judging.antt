@@ -1,15 +1,19 @@
 -- Judging a rank sheet: document 01, "The rank sheet". "Lines are judged in order and the first bad one decides."
-use Rattle.std.specs.Prelude.{ℕ, zero, suc, ◌+◌, List, [], ◌∷◌, cond, ltb, eqb, length}
-use Rattle.refusal.specs.Table.{accepted, form, count_or_note, bad_length, bad_loop}
+use Rattle.std.specs.Prelude.{ℕ, zero, suc, ◌+◌, List, [], ◌∷◌, cond, ltb, eqb, length, ⊤, Result, Ok, Err}
+use Rattle.refusal.specs.Table.{number_by, accepted, form, count_or_note, bad_length, bad_loop}
 use Rattle.rules.specs.Rules.{count_rule, note_rule, good_length, good_loop}
 use Rattle.slots.specs.Slots.{waiting_slot}
 use Rattle.session.specs.Sessions.{empty_session, put_slot}
 use Rattle.session.specs.declared.Session.{Session}
 use Rattle.lines.specs.Reading.{is_good}
-use Rattle.lines.specs.Lines.{note_line, header_line, edition1}
-use Rattle.lines.specs.declared.Field.{Field}
+use Rattle.lines.specs.Fields.{Field}
+use Rattle.lines.specs.Lines.{NoteLine, note_line, header_line, edition1}
 use Rattle.lines.specs.declared.Entry.{Entry}
-use Rattle.lines.specs.declared.NoteLine.{NoteLine}
+use Rattle.lines.specs.declared.Fault.{Fault}
+use Rattle.lines.specs.declared.Read.{Read}
+use Rattle.refusal.specs.declared.Refusal.{Refusal}
+use Rattle.refusal.specs.declared.Refusal.TheVariants
+use Rattle.sheet.specs.declared.Bad.{Bad}
 use Rattle.sheet.specs.declared.Verdict.{Verdict}
 use Rattle.sheet.specs.declared.Sheet.{Sheet}
 
@@ -28,6 +32,26 @@ entry_number last e =
 unfoldable pub note_number : (last : ℕ) → NoteLine → ℕ
 note_number last l = cond (is_good l.stop) (entry_number last l.entry) form
 
+-- the same as the code judges: what was read of a line, or why the line is refused
+unfoldable pub header_judged : Result (Read ℕ) Fault → Result (Read ℕ) Refusal
+header_judged (Ok h) = cond (count_rule h.value) (Ok h) (Err TheVariants.CountOrNote)
+header_judged (Err fault) = Err TheVariants.Form
+
+unfoldable pub entry_judged : (last : ℕ) → Entry → Result ⊤ Refusal
+entry_judged last e =
+    cond (note_rule last e.note)
+    (cond (good_length e.sample) (cond (good_loop e.sample) (Ok tt) (Err TheVariants.BadLoop)) (Err TheVariants.BadLength))
+    (Err TheVariants.CountOrNote)
+
+-- what was read, where it is accepted
+abbrev pub accepted_read : {A : Type 0} → A → Result ⊤ Refusal → Result A Refusal
+accepted_read read (Ok _) = Ok read
+accepted_read read (Err refusal) = Err refusal
+
+unfoldable pub line_judged : (last : ℕ) → Result (Read Entry) Fault → Result (Read Entry) Refusal
+line_judged last (Ok l) = accepted_read l (entry_judged last l.value)
+line_judged last (Err fault) = Err TheVariants.Form
+
 -- a line is bad, with its number; or none is: "an accepted sheet's line is 0"
 unfoldable pub verdict_at : (number line : ℕ) → Verdict
 verdict_at number line = record { number = number; line = line }
@@ -35,6 +59,12 @@ verdict_at number line = record { number = number; line = line }
 unfoldable pub all_good : Verdict
 unfolding verdict_at
 all_good = verdict_at accepted 0
+
+-- what the code answers of a judged sheet
+unfoldable pub verdict_of : Result ⊤ Bad → Verdict
+unfolding all_good verdict_at
+verdict_of (Ok _) = all_good
+verdict_of (Err bad) = verdict_at (number_by bad.refusal) bad.line
 
 -- the lines of so many notes more, from a place, a line's number and the note before; then "Nothing follows"
 unfoldable pub judged_notes : (notes : ℕ) (text : List ℕ) (at line last : ℕ) → Verdict

@@ -1,17 +1,20 @@
 -- What the sheet's steps promise, one by one. What they promise of whole texts is in the crate `sheet_promises`.
-use Rattle.std.specs.Prelude.{ℕ, suc, ◌+◌, ◌%◌, ◌<◌, ◌≤◌, ◌≡◌, List, [], ◌∷◌, true, false, length, replicate}
-use Rattle.refusal.specs.Table.{accepted, form, count_or_note, bad_length, bad_loop}
+use Rattle.lines.specs.Fields.{Field, field_of}
+use Rattle.std.specs.Prelude.{ℕ, suc, ◌+◌, ◌%◌, ◌<◌, ◌≤◌, ◌≡◌, List, [], ◌∷◌, true, false, length, replicate, ⊤, Result, Ok, Err}
+use Rattle.refusal.specs.Table.{number_by, number_of, accepted, form, count_or_note, bad_length, bad_loop}
 use Rattle.rules.specs.Rules.{count_rule, note_rule, good_length, good_loop}
 use Rattle.standard.specs.Standard.{IV}
 use Rattle.slots.specs.Slots.{waiting_slot}
 use Rattle.session.specs.Sessions.{slot_index, put_slot}
 use Rattle.session.specs.declared.Session.{Session}
-use Rattle.lines.specs.Lines.{note_line, header_line}
-use Rattle.lines.specs.declared.Field.{Field}
+use Rattle.lines.specs.Lines.{NoteLine, line_of, note_line, header_line}
 use Rattle.lines.specs.declared.Entry.{Entry}
-use Rattle.lines.specs.declared.NoteLine.{NoteLine}
-use Rattle.sheet.specs.Judging.{header_at, header_number, entry_number, note_number, judged_notes, judged, entries_at, with_notes}
+use Rattle.lines.specs.declared.Fault.{Fault}
+use Rattle.lines.specs.declared.Read.{Read}
+use Rattle.sheet.specs.Judging.{header_at, header_number, entry_number, note_number, header_judged, entry_judged, line_judged}
+use Rattle.sheet.specs.Judging.{verdict_of, judged_notes, judged, entries_at, with_notes}
 use Rattle.sheet.specs.Filling.{listing, start, with_listed}
+use Rattle.sheet.specs.declared.Bad.{Bad}
 use Rattle.sheet.specs.declared.Verdict.{Verdict}
 
 -- line 1: form, then the count
@@ -66,6 +69,14 @@ pub record OfFilling (text : List ℕ) (at : ℕ) (s : Session) (e : Entry) (es 
   pub more_notes : with_notes s (e ∷ es) ≡ with_notes (put_slot s e.note (waiting_slot e.sample)) es
   pub counted : (listed : ℕ) → with_listed s listed ≡ record { slots = s.slots; listed = listed; opened = s.opened }
 
+-- what the code answers of a line is told by the line's number, and what it accepts is what was read
+pub record Judges (header : Result (Read ℕ) Fault) (last : ℕ) (e : Entry) (line : Result (Read Entry) Fault) : Type 0 where
+  pub header_told : number_of (header_judged header) ≡ header_number (field_of header)
+  pub header_kept : (read : Read ℕ) → header_judged header ≡ Ok read → header ≡ Ok read
+  pub entry_told : number_of (entry_judged last e) ≡ entry_number last e
+  pub line_told : number_of (line_judged last line) ≡ note_number last (line_of line)
+  pub line_kept : (read : Read Entry) → line_judged last line ≡ Ok read → line ≡ Ok read
+
 pub record Promises : Type 0 where
   -- "Line 1: `RANK`, `1`": the figure 1
   pub header_at_lem : (text : List ℕ) (at : ℕ) → header_at text at ≡ header_line text at 0x31
@@ -73,6 +84,13 @@ pub record Promises : Type 0 where
   pub of_header : (h : Field) → OfHeader h
   pub of_entry : (last : ℕ) (e : Entry) → OfEntry last e
   pub of_line : (last : ℕ) (l : NoteLine) → OfLine last l
+  pub judges :
+      (header : Result (Read ℕ) Fault) (last : ℕ) (e : Entry) (line : Result (Read Entry) Fault)
+      → Judges header last e line
+  -- a host is told of a judged sheet by the refusal's number and the line's, and all that was answered: two answers told alike are one
+  pub good_told : verdict_of (Ok tt) ≡ record { number = accepted; line = 0 }
+  pub bad_told : (bad : Bad) → verdict_of (Err bad) ≡ record { number = number_by bad.refusal; line = bad.line }
+  pub verdict_once : (x y : Result ⊤ Bad) → verdict_of x ≡ verdict_of y → x ≡ y
   pub of_notes : (text : List ℕ) (at line last : ℕ) → OfNotes text at line last
   pub of_sheet : (text : List ℕ) (at : ℕ) → OfSheet text at
   -- the note lines begin behind the header, and a refused sheet has none. (An accepted sheet's count is at most 32, which `% 256` leaves.)

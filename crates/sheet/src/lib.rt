@@ -2,20 +2,28 @@
 #![tactic(auto)]
 
 ghost use Rattle.std.specs.Prelude.{◌≡◌};
-ghost use Rattle.sheet.specs.Judging.{header_at, header_number, entry_number, note_number};
-ghost use Rattle.sheet.specs.Judging.{verdict_at, judged, entries_at, with_notes, sheet_of};
+ghost use Rattle.lines.specs.Fields.{field_of};
+ghost use Rattle.sheet.specs.Judging.{header_at, header_judged, entry_judged, line_judged};
+ghost use Rattle.sheet.specs.Judging.{verdict_of, judged, entries_at, with_notes, sheet_of};
 ghost use Rattle.sheet.specs.Filling.{start, listing, with_listed};
 ghost use Rattle.session.specs.Sessions.{empty_session};
 
-use lines::{Entry, Field, NoteLine, is_good};
-use refusal::{ACCEPTED, BAD_LENGTH, BAD_LOOP, COUNT_OR_NOTE, FORM};
+use lines::{Entry, Fault, Read};
+use refusal::{ACCEPTED, Refusal};
 use session::Session;
 use slots::Slot;
 
 // The edition of these sheets: the figure 1.
-const EDITION: u8 = 49;
+const EDITION: u8 = b'1';
 
-// Whether a line is bad: its refusal number and its line number, from 1; both 0 where none is.
+// A bad line: why it is refused, and its number, from 1.
+#[derive(Clone, Copy, Debug, PartialEq, Eq)]
+pub struct Bad {
+    pub refusal: Refusal,
+    pub line: u32,
+}
+
+// What a C host is told of a judged sheet: the refusal's number and the bad line's; both 0 where none is bad.
 #[repr(C)]
 #[derive(Clone, Copy)]
 pub struct Verdict {
@@ -23,7 +31,25 @@ pub struct Verdict {
     pub line: u32,
 }
 
-// What reading a sheet answers.
+impl From<Result<(), Bad>> for Verdict {
+    ghost from_gives = { λ judged v. v ≡ verdict_of judged };
+
+    #[tactic(auto, unfolding(crate::specs::Judging::verdict_of, crate::specs::Judging::verdict_at, crate::specs::Judging::all_good))]
+    fn from(judged: Result<(), Bad>) -> Verdict {
+        match judged {
+            Ok(()) => Verdict {
+                number: ACCEPTED,
+                line: 0,
+            },
+            Err(bad) => Verdict {
+                number: bad.refusal.number(),
+                line: bad.line,
+            },
+        }
+    }
+}
+
+// What reading a sheet answers a C host.
 #[repr(C)]
 #[derive(Clone, Copy)]
 pub struct Sheet {
@@ -48,144 +74,128 @@ pub struct Listing {
 }
 
 // Line 1 of the sheet that begins at a place.
-pub fn header_at(text: &[u8], at: usize) -> Field
-    ensures { result ≡ header_at text.now at }
+pub fn header_at(text: &[u8], at: usize) -> Result<Read<u32>, Fault>
+    ensures { field_of result ≡ header_at text.now at }
 {
     lines::header_line(text, at, EDITION)
 }
 
-// Line 1's refusal number: form, then count.
-pub fn header_number(h: Field) -> u8
-    ensures { result ≡ header_number h }
+// Line 1, or why it is refused: form, then count.
+#[tactic(auto, unfolding(crate::specs::Judging::header_judged))]
+pub fn header_number(header: Result<Read<u32>, Fault>) -> Result<Read<u32>, Refusal>
+    ensures { result ≡ header_judged header }
 {
-    if !is_good(h.stop) {
-        return FORM;
+    let Ok(read) = header else {
+        return Err(Refusal::Form);
+    };
+    if rules::count_rule(read.value) {
+        Ok(read)
+    } else {
+        Err(Refusal::CountOrNote)
     }
-    if !rules::count_rule(h.value) {
-        return COUNT_OR_NOTE;
-    }
-    ACCEPTED
 }
 
-// A well-formed note line's refusal number: note, then length, then loop.
-pub fn entry_number(last: u32, e: Entry) -> u8
-    ensures { result ≡ entry_number last e }
+// Why a well-formed note line is refused: note, then length, then loop.
+#[tactic(auto, unfolding(crate::specs::Judging::entry_judged))]
+pub fn entry_number(last: u32, e: Entry) -> Result<(), Refusal>
+    ensures { result ≡ entry_judged last e }
 {
     if !rules::note_rule(last, e.note) {
-        return COUNT_OR_NOTE;
+        return Err(Refusal::CountOrNote);
     }
-    let sample = e.sample;
-    if !rules::good_length(sample) {
-        return BAD_LENGTH;
+    if !rules::good_length(e.sample) {
+        return Err(Refusal::BadLength);
     }
-    if !rules::good_loop(sample) {
-        return BAD_LOOP;
+    if !rules::good_loop(e.sample) {
+        return Err(Refusal::BadLoop);
     }
-    ACCEPTED
+    Ok(())
 }
 
-// A note line's refusal number: form first.
-pub fn note_number(last: u32, l: NoteLine) -> u8
-    ensures { result ≡ note_number last l }
+// A note line, or why it is refused: form first.
+#[tactic(auto, unfolding(crate::specs::Judging::line_judged))]
+pub fn note_number(last: u32, line: Result<Read<Entry>, Fault>) -> Result<Read<Entry>, Refusal>
+    ensures { result ≡ line_judged last line }
 {
-    if !is_good(l.stop) {
-        return FORM;
-    }
-    let e = l.entry;
-    entry_number(last, e)
+    let Ok(read) = line else {
+        return Err(Refusal::Form);
+    };
+    entry_number(last, read.value)?;
+    Ok(read)
 }
 
-fn verdict_at(number: u8, line: u32) -> Verdict
-    ensures { result ≡ verdict_at number line }
+// The sheet that begins at a place of a text, judged: its first bad line, where one is.
+#[tactic(auto, using(crate::proofs::Verdicts::line_steps))]
+pub fn judged(text: &[u8], at: usize) -> Result<(), Bad>
+    ensures { verdict_of result ≡ judged text.now at }
 {
-    Verdict { number, line }
-}
-
-// The first bad line of the sheet that begins at a place of a text.
-pub fn judged(text: &[u8], at: usize) -> Verdict
-    ensures { result ≡ judged text.now at }
-{
-    let h = header_at(text, at);
-    let first = header_number(h);
-    if first != ACCEPTED {
-        return verdict_at(first, 1);
-    }
-    let header = h.stop;
-    let count = h.value;
-    let mut next = header.at;
-    let mut last: u32 = 0;
-    let mut i: u32 = 0;
-    while i < count {
-        let l = lines::note_line(text, next);
-        let number = note_number(last, l);
-        if number != ACCEPTED {
-            return verdict_at(number, i + 2);
-        }
-        let e = l.entry;
-        let stop = l.stop;
-        last = e.note;
-        next = stop.at;
-        i += 1;
+    let header = header_number(header_at(text, at)).map_err(|refusal| Bad { refusal, line: 1 })?;
+    let mut next = header.next;
+    let mut last = 0;
+    for line in 2..header.value + 2 {
+        let read = lines::note_line(text, next);
+        let note = note_number(last, read).map_err(|refusal| Bad { refusal, line })?;
+        last = note.value.note;
+        next = note.next;
     }
     if next < text.len() {
-        return verdict_at(FORM, i + 2);
+        return Err(Bad {
+            refusal: Refusal::Form,
+            line: header.value + 2,
+        });
     }
-    verdict_at(ACCEPTED, 0)
+    Ok(())
 }
 
 // Where the note lines begin behind a header, and how many there are: none of a refused sheet. An accepted one has at most 32.
-pub fn start_of(h: Field, v: Verdict) -> Start
-    ensures { result ≡ start h v }
+#[tactic(auto, using(crate::proofs::Verdicts::verdict_good), unfolding(crate::specs::Filling::start))]
+pub fn start_of(header: Result<Read<u32>, Fault>, judged: Result<(), Bad>) -> Start
+    ensures { result ≡ start (field_of header) (verdict_of judged) }
 {
-    let stop = h.stop;
-    if v.number == ACCEPTED {
-        Start {
-            at: stop.at,
-            notes: h.value,
-            listed: (h.value % 256) as u8,
-        }
-    } else {
-        Start {
-            at: stop.at,
-            notes: 0,
-            listed: 0,
-        }
+    let (at, count) = match header {
+        Ok(read) => (read.next, read.value),
+        Err(fault) => (fault.at, 0),
+    };
+    let notes = if judged.is_ok() { count } else { 0 };
+    Start {
+        at,
+        notes,
+        listed: (notes % 256) as u8,
     }
 }
 
-// What the line at a place puts into a session.
+// What the line at a place puts into a session; an ill-formed one would be of note 0.
+#[tactic(auto, unfolding(crate::specs::Filling::listing, lines::specs::Lines::no_entry))]
 pub fn listing_at(text: &[u8], at: usize) -> Listing
     ensures { result ≡ listing text.now at }
 {
-    let l = lines::note_line(text, at);
-    let e = l.entry;
-    let sample = e.sample;
-    let stop = l.stop;
-    let slot = slots::waiting_slot(sample);
-    let index = session::slot_index(e.note as u64);
+    let (entry, next) = match lines::note_line(text, at) {
+        Ok(line) => (line.value, line.next),
+        Err(fault) => {
+            let sample = rules::zero_record();
+            (Entry { note: 0, sample }, fault.at)
+        }
+    };
     Listing {
-        index,
-        slot,
-        next: stop.at,
+        index: session::slot_index(entry.note as u64),
+        slot: slots::waiting_slot(entry.sample),
+        next,
     }
 }
 
 // The session that lists the notes of so many lines, from a place, and carries this count of them. The slots are filled before the session
 // is made of them: filled in it, they would be copied once more.
+#[tactic(auto, using(crate::proofs::Filling::listing_steps))]
 pub fn filled(text: &[u8], at: usize, notes: u32, listed: u8) -> Session
     ensures { result ≡ with_listed (with_notes empty_session (entries_at notes text.now at)) listed }
 {
     let none = slots::empty_slot();
     let mut slots = [none; 32];
     let mut next = at;
-    let mut i: u32 = 0;
-    while i < notes {
-        let l = listing_at(text, next);
-        let index = l.index;
-        let slot = l.slot;
-        slots[index] = slot;
-        next = l.next;
-        i += 1;
+    for _ in 0..notes {
+        let listing = listing_at(text, next);
+        slots[listing.index] = listing.slot;
+        next = listing.next;
     }
     Session {
         slots,
@@ -195,11 +205,15 @@ pub fn filled(text: &[u8], at: usize, notes: u32, listed: u8) -> Session
 }
 
 // A rank sheet: its lines are judged, and then the session is filled from them; from none of them if one is bad.
+#[tactic(auto, using(crate::proofs::Filling::sheet_session))]
 pub fn read(text: &[u8]) -> Sheet
     ensures { result ≡ sheet_of text.now }
 {
-    let verdict = judged(text, 0);
-    let from = start_of(header_at(text, 0), verdict);
+    let judged = judged(text, 0);
+    let from = start_of(header_at(text, 0), judged);
     let session = filled(text, from.at, from.notes, from.listed);
-    Sheet { verdict, session }
+    Sheet {
+        verdict: Verdict::from(judged),
+        session,
+    }
 }

@@ -12,8 +12,7 @@ use lib.Seq.{drop-cons}
 use Rattle.hex_digits.specs.Digits.{digit_of}
 use Rattle.hex_digits.proofs.Digits.{digit_value, digit_below, value_digit}
 use Rattle.lines.specs.Reading.{digit, fault, is_good}
-use Rattle.lines.specs.Fields.{good_digest, digest_fault, digit_at, pair_at, digest_from, digest_at}
-use Rattle.lines.specs.declared.DigestField.{DigestField}
+use Rattle.lines.specs.Fields.{DigestField, good_digest, digest_fault, digit_at, pair_at, digest_from, digest_at}
 use Rattle.lines.proofs.Digests.{digit_before, pair_none, pair_one, pair_both}
 use Rattle.truth.proofs.Tests.{below_or_not}
 use Rattle.sheet_promises.specs.Grammar.{Pairs, no_pair, pair, IsDigest}

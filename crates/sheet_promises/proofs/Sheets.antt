@@ -9,10 +9,9 @@ use lib.ListN.{length, drop}
 use Rattle.refusal.specs.Table.{accepted, form, count_or_note}
 use Rattle.rules.specs.Rules.{count_rule}
 use Rattle.lines.specs.Reading.{is_good}
-use Rattle.lines.specs.Fields.{good_field}
+use Rattle.lines.specs.Fields.{Field, good_field}
 use Rattle.lines.specs.Lines.{header_line, edition1}
 use Rattle.sheet.specs.Judging.{verdict_at, judged_notes, judged, entries_at}
-use Rattle.lines.specs.declared.Field.{Field}
 use Rattle.lines.specs.declared.Entry.{Entry}
 use Rattle.truth.proofs.Tests.{either, never, not_both}
 use Rattle.sheet.proofs.Verdicts.{header_ill, header_bad, header_good, header_decides, notes_decide}

@@ -7,12 +7,12 @@ use native.Mathlib.Nat.{add-zero}
 use native.Mathlib.Omega.{arith}
 use borrow.Author.Tests.{ne_eqb}
 use lib.ListN.{length, drop, length-append}
+use Rattle.std.specs.Prelude.{Option, Some, None}
 use Rattle.decimal.specs.Reading.{is_figure, numeral_at}
 use Rattle.decimal.specs.declared.Numeral.{Numeral}
 use Rattle.decimal.proofs.Numbers.{number_read, found_stands}
-use Rattle.lines.specs.Reading.{nothing, number, separator, good_stop, fault, is_good, has_at, mark_at, word_at}
+use Rattle.lines.specs.Reading.{Stop, nothing, number, separator, good_stop, fault, is_good, has_at, mark_at, word_at}
 use Rattle.lines.specs.Fields.{good_field, field_at}
-use Rattle.lines.specs.declared.Stop.{Stop}
 use Rattle.lines.proofs.Marks.{mark_there, mark_missing}
 use Rattle.lines.proofs.Places.{field_none, field_open, field_closed}
 use Rattle.sheet_promises.specs.Grammar.{IsField}
@@ -79,7 +79,7 @@ field_read text piece at next value ending other f p =
     let n = number_read text figures (ending ∷ rest) at value f.is_number (λ byte more e. ends_so byte more e) stands in
     let closed : has_at text (at + length figures) ending ≡ true = stands_has text rest (at + length figures) ending (behind text figures (ending ∷ rest) at stands) in
     let place : at + length figures + 1 ≡ next = omega (arith, ap length f.whole, length-append figures (ending ∷ []), p.ends) in
-    sym (field_closed text at ending (record { found = true; at = at + length figures; value = value }) (sym n) refl closed) ∙ ap (good_field value) place
+    field_closed text at ending (record { value = value; next = at + length figures }) n closed ∙ ap (good_field value) place
   where
     ends_so : (byte : ℕ) (more : List ℕ) → ending ∷ drop next text ≡ byte ∷ more → is_figure byte ≡ false
     ends_so byte more e = let same : ending ≡ byte = cc in rw (← same) other
@@ -91,34 +91,29 @@ pub record FieldStands (text : List ℕ) (at ending : ℕ) : Type 0 where
   pub part : Part text at piece (field_at text at ending).stop.at
 
 module _ (text : List ℕ) (at ending : ℕ) (h : is_good (field_at text at ending).stop ≡ true) where
-  abbrev n : Numeral
-  n = numeral_at text at
-
-  number_there : (b : Bool) → n.found ≡ b → n.found ≡ true
-  number_there true e = e
-  number_there false e = absurd (never_good number n.at (λ z. omega arith) (rw (← field_none text at ending n refl e) at h))
-
-  ending_there : (b : Bool) → has_at text n.at ending ≡ b → has_at text n.at ending ≡ true
-  ending_there true e = e
-  ending_there false e = absurd (never_good separator n.at (λ z. omega arith) (rw (← field_open text at ending n refl (number_there _ refl) e) at h))
-
   pub field_stands : FieldStands text at ending
-  field_stands =
-      let found = number_there _ refl in
-      let closed = ending_there _ refl in
-      let b = found_stands text at found in
-      let ends = b.ends in
-      let read = field_closed text at ending n refl found closed in
-      record {
-        piece = b.number ++ (ending ∷ []);
-        is_field = rw (← read) (record { number = b.number; is_number = b.is_number; whole = refl });
-        part =
-            rw (← read)
-            (record {
-              cut =
-                  b.cut
-                  ∙ ap (λ (l : List ℕ). b.number ++ l) (has_stands text n.at ending closed)
-                  ∙ sym (append_assoc b.number (ending ∷ []) (drop (n.at + 1) text));
-              ends = omega (arith, length-append b.number (ending ∷ []));
-            });
-      }
+  field_stands = go (numeral_at text at) refl
+    where
+      closed_there : (n : Numeral) → numeral_at text at ≡ Some n → (b : Bool) → has_at text n.next ending ≡ b → FieldStands text at ending
+      closed_there n e false missing = absurd (never_good separator n.next (λ z. omega arith) (rw (field_open text at ending n e missing) at h))
+      closed_there n e true closed =
+          let b = found_stands text at n e in
+          let ends = b.ends in
+          let read = sym (field_closed text at ending n e closed) in
+          record {
+            piece = b.number ++ (ending ∷ []);
+            is_field = rw (← read) (record { number = b.number; is_number = b.is_number; whole = refl });
+            part =
+                rw (← read)
+                (record {
+                  cut =
+                      b.cut
+                      ∙ ap (λ (l : List ℕ). b.number ++ l) (has_stands text n.next ending closed)
+                      ∙ sym (append_assoc b.number (ending ∷ []) (drop (n.next + 1) text));
+                  ends = omega (arith, length-append b.number (ending ∷ []));
+                });
+          }
+
+      go : (o : Option Numeral) → numeral_at text at ≡ o → FieldStands text at ending
+      go None e = absurd (never_good number at (λ z. omega arith) (rw (field_none text at ending e) at h))
+      go (Some n) e = closed_there n e (has_at text n.next ending) refl

@@ -1,4 +1,3 @@
 pub mod Slots
-pub mod Answers
+pub mod Surveys
 pub mod Sheets
-pub mod Turns

@@ -1,179 +1,135 @@
--- From the survey to the sheet: what the slots come to, the line of each, and what is answered. Assumes nothing.
-use Prim.Native.Nat.{ℕ, zero, suc, ◌+◌, ◌-◌, ◌<◌, ◌≤◌}
-use mathlib.Core.Path.{◌≡◌, refl, sym, ap, ◌∙◌}
-use mathlib.Core.List.{List, [], ◌∷◌, ◌++◌, append_assoc}
-use mathlib.Core.Logic.{⊎_elim}
-use mathlib.Core.Bool.{Bool, true, false, cond}
-use native.Mathlib.Omega.{arith}
+-- The sheet, row by row: refused, or laid note by note behind line 1. Assumes nothing.
+use Prim.Native.Nat.{ℕ, ◌+◌, ◌<◌, ◌≤◌}
+use mathlib.Core.Path.{◌≡◌, sym, ap, ◌∙◌, subst}
+use mathlib.Core.List.{List, [], ◌∷◌, ◌++◌, append_assoc, append-nil}
 use native.Mathlib.Nat.{zero-add}
-use native.Mathlib.Numerals.{add-one}
-use lib.Dec.{eqb, ltb}
-use lib.ListN.{length, get_or, drop, length-append}
-use borrow.Author.Tests.{ltb-false, eqb-true}
+use native.Mathlib.Omega.{arith}
+use borrow.Author.Tests.{eq-eqb, ne_eqb}
+use lib.ListN.{length, get_or, length-append}
+use Rattle.std.specs.Prelude.{Result, Ok, Err, IsErrAnd}
 use Rattle.buffers.specs.Copy.{copied}
 use Rattle.buffers.proofs.Copied.{copied_front}
-use Rattle.buffers.proofs.Zeros.{copied_none}
-use Rattle.refusal.specs.Table.{accepted, slot_not_in_order, none_listed, short_buffer, refused_by, wrote}
-use Rattle.truth.proofs.Tests.{either, below_or_not}
-use Rattle.slots.specs.Slots.{empty_slot}
-use Rattle.session.specs.Sessions.{slot_of}
-use Rattle.session.specs.declared.Session.{Session}
-use Rattle.session.proofs.Proved.{proved as session}
+use Rattle.refusal.specs.Table.{written_of}
+use Rattle.refusal.specs.declared.Refusal.{Refusal}
+use Rattle.refusal.specs.declared.Refusal.TheVariants
 use Rattle.lines.specs.declared.Entry.{Entry}
+use Rattle.slots.specs.declared.Slot.{Slot}
+use Rattle.session.specs.declared.Session.{Session}
 use Rattle.writing.specs.Texts.{header_text, line_text, lines_text, sheet_text}
-use Rattle.writing.specs.Writing.{entry_of, entries_to, entries_of, unspoilt_to, write_number, sheet_written, with_sheet}
-use Rattle.writing.proofs.Laying.{length_copied, part_laid}
-use Rattle.writer.specs.Survey.{survey_to, with_slot, answer_of, beginning, with_header}
+use Rattle.writing.specs.Writing.{entry_of, entries_to, entries_of, sheet_written, with_sheet}
+use Rattle.writing.specs.Promises.{Row, row6, row15, row16, row0, Unspoilt, SomeListed, sheet_size}
+use Rattle.writing.proofs.Laying.{part_laid}
+use Rattle.writing.proofs.Notes.{unspoilt_is, spoilt_is, none_is, some_is}
+use Rattle.writing.proofs.Proved.{proved as writing}
+use Rattle.writer.specs.Survey.{survey}
 use Rattle.writer.specs.declared.Found.{Found}
-use Rattle.writer.specs.declared.Begun.{Begun}
+use Rattle.writer.proofs.Slots.{lines_within, entries_same, lines_next}
+use Rattle.writer.proofs.Surveys.{survey_ok, survey_err}
 
--- lines behind lines
-lines_join : (es fs : List Entry) → lines_text (es ++ fs) ≡ lines_text es ++ lines_text fs
-unfolding lines_text
-lines_join [] fs = refl
-lines_join (e ∷ es) fs = rw (lines_join es fs) (sym (append_assoc (line_text e) (lines_text es) (lines_text fs)))
+-- line 1 and the lines of so many notes
+abbrev pub so_far : Session → ℕ → List ℕ
+so_far s i = header_text (length (entries_of s)) ++ lines_text (entries_to s i)
 
-module _ (s : Session) (i : ℕ) where
-  -- the slot at an index is the next note's
-  pub next_slot : i < 32 → slot_of s (suc i) ≡ get_or s.slots i empty_slot
-  next_slot l = let at : suc i - 1 ≡ i = omega arith in session.places s (suc i) (omega arith) (omega arith) ∙ ap (λ (k : ℕ). get_or s.slots k empty_slot) at
+-- so much is laid
+pub record Laid (s : Session) (b : List ℕ) (at i : ℕ) (x : List ℕ) : Type 0 where
+  pub within : i ≤ 32
+  pub behind : at ≡ length (so_far s i)
+  pub laid : x ≡ copied b 0 (so_far s i)
 
-  -- so one slot more is one note more
-  pub survey_more : (found : Found) → i < 32 → found ≡ survey_to s i → with_slot found (i + 1) (get_or s.slots i empty_slot) ≡ survey_to s (i + 1)
-  unfolding survey_to with_slot entries_to unspoilt_to
-  survey_more found l e =
-      let slot = get_or s.slots i empty_slot in
-      rw (add-one i, next_slot l, e, length-append (entries_to s i) (entry_of (suc i) slot), lines_join (entries_to s i) (entry_of (suc i) slot), length-append (lines_text (entries_to s i)) (lines_text (entry_of (suc i) slot)))
+sheet_sizes : (s : Session) → sheet_size s ≡ length (header_text (length (entries_of s))) + length (lines_text (entries_of s))
+unfolding sheet_text
+sheet_sizes s = length-append (header_text (length (entries_of s))) (lines_text (entries_of s))
 
-  abbrev text : List ℕ
-  text = lines_text (entry_of (i + 1) (get_or s.slots i empty_slot))
+-- what `write` answers, and leaves in the buffer
+module _ (s : Session) (b : List ℕ) where
+  abbrev pub Told : Result ℕ Refusal → List ℕ → Type 0
+  Told answer after = (written_of answer ≡ sheet_written s (length b)) × (after ≡ with_sheet s b)
 
-  pub lines_more : i < 32 → lines_text (entries_to s (i + 1)) ≡ lines_text (entries_to s i) ++ text
-  unfolding entries_to
-  lines_more l = rw (add-one i, next_slot l) (lines_join (entries_to s i) (entry_of (suc i) (get_or s.slots i empty_slot)))
+  by_row : (answer : Result ℕ Refusal) (after : List ℕ) → Row s b (written_of answer) after → Told answer after
+  by_row answer after row = (writing.table s b (written_of answer) after).1 row
 
-pub survey_none : (s : Session) → record { unspoilt = true; notes = 0; size = 0 } ≡ survey_to s 0
-unfolding survey_to entries_to unspoilt_to lines_text
-survey_none s = refl
+  pub told_spoilt : (answer : Result ℕ Refusal) (refusal : Refusal) → IsErrAnd answer (λ (x : Refusal). x ≡ refusal) → Err refusal ≡ survey s → Told answer b
+  told_spoilt (Ok n) refusal same e = absurd same
+  told_spoilt (Err other) refusal same e =
+      let found = survey_err s refusal e in
+      rw (same, found.1) (by_row (Err TheVariants.SlotNotInOrder) b (row6 ((spoilt_is s).0 found.0)))
 
--- fewer notes have no longer lines
-pub lines_within : (s : Session) (i n : ℕ) → i ≤ n → length (lines_text (entries_to s i)) ≤ length (lines_text (entries_to s n))
-unfolding entries_to
-lines_within s i zero l = let none : i ≡ 0 = omega arith in rw none (omega arith)
-lines_within s i (suc n) l =
-    ⊎_elim
-    (λ (past : n < i). let all : i ≡ suc n = omega arith in rw all (omega arith))
-    (λ before.
-    let more = entry_of (suc n) (slot_of s (suc n)) in
-    omega (arith, lines_within s i n before, ap length (lines_join (entries_to s n) more), length-append (lines_text (entries_to s n)) (lines_text more)))
-    (below_or_not n i)
+  module _ (found : Found) (e : Ok found ≡ survey s) where
+    sound : Unspoilt s
+    sound = (unspoilt_is s).0 (survey_ok s found e).0
 
--- the three tests, in their order
-same_answer : (a b c : Bool) (size : ℕ)
-    → cond a (cond b (refused_by none_listed) (cond c (refused_by short_buffer) (wrote size))) (refused_by slot_not_in_order)
-    ≡ (let number = cond a (cond b none_listed (cond c short_buffer accepted)) slot_not_in_order in cond (eqb number accepted) (wrote size) (refused_by number))
-same_answer true true c size = refl
-same_answer true false true size = refl
-same_answer true false false size = refl
-same_answer false b c size = refl
+    notes : found.notes ≡ length (entries_of s)
+    notes = ap (λ (x : Found). x.notes) (survey_ok s found e).1
 
-its_number : (a b c : Bool) (size : ℕ)
-    → (cond a (cond b (refused_by none_listed) (cond c (refused_by short_buffer) (wrote size))) (refused_by slot_not_in_order)).number
-    ≡ cond a (cond b none_listed (cond c short_buffer accepted)) slot_not_in_order
-its_number true true c size = refl
-its_number true false true size = refl
-its_number true false false size = refl
-its_number false b c size = refl
+    size : found.size ≡ length (lines_text (entries_of s))
+    size = ap (λ (x : Found). x.size) (survey_ok s found e).1
 
-long_enough : (a b c : Bool) → cond a (cond b none_listed (cond c short_buffer accepted)) slot_not_in_order ≡ accepted → c ≡ false
-long_enough true true c e = absurd (omega arith)
-long_enough true false true e = absurd (omega arith)
-long_enough true false false e = refl
-long_enough false b c e = absurd (omega arith)
+    pub told_none : found.notes ≡ 0 → Told (Err TheVariants.NoneListed) b
+    told_none none = by_row (Err TheVariants.NoneListed) b (row15 sound ((none_is s).0 (eq-eqb _ _ (sym notes ∙ none))))
 
-module _ (s : Session) (room : ℕ) where
-  abbrev es : List Entry
-  es = entries_of s
+    module _ (some : found.notes ≡ 0 → ⊥) where
+      some_listed : SomeListed s
+      some_listed = (some_is s).0 (ne_eqb _ _ (λ (h : length (entries_of s) ≡ 0). some (notes ∙ h)))
 
-  sheet_size_lem : length (sheet_text es) ≡ length (header_text (length es)) + length (lines_text es)
-  unfolding sheet_text
-  sheet_size_lem = length-append (header_text (length es)) (lines_text es)
+      module _ (header : ℕ) (is_header : header ≡ length (header_text found.notes)) where
+        whole : header + found.size ≡ sheet_size s
+        whole = rw (is_header, notes, size) (sym (sheet_sizes s))
 
-  answers : answer_of (survey_to s 32) room ≡ sheet_written s room
-  unfolding answer_of survey_to sheet_written write_number entries_of
-  answers = rw sheet_size_lem (same_answer (unspoilt_to s 32) (eqb (length (entries_to s 32)) 0) (ltb room (length (header_text (length (entries_to s 32))) + length (lines_text (entries_to s 32)))) _)
+        pub told_short : length b < header + found.size → Told (Err TheVariants.ShortBuffer) b
+        told_short short = by_row (Err TheVariants.ShortBuffer) b (row16 sound some_listed (omega (arith, whole, short)))
 
-  numbers : (answer_of (survey_to s 32) room).number ≡ write_number s room
-  unfolding answer_of survey_to write_number entries_of
-  numbers = rw sheet_size_lem (its_number (unspoilt_to s 32) (eqb (length (entries_to s 32)) 0) (ltb room (length (header_text (length (entries_to s 32))) + length (lines_text (entries_to s 32)))) _)
+        pub told_written : header + found.size ≤ length b → (after : List ℕ) → after ≡ copied b 0 (so_far s 32) → Told (Ok (header + found.size)) after
+        unfolding sheet_text entries_of
+        told_written fits after laid =
+            let fit : sheet_size s ≤ length b = omega (arith, whole, fits) in
+            rw (whole, laid ∙ copied_front b (sheet_text (entries_of s)) fit) (by_row (Ok (sheet_size s)) _ (row0 sound some_listed fit))
 
-  fits : write_number s room ≡ accepted → length (header_text (length es)) + length (lines_text es) ≤ room
-  unfolding write_number
-  fits e = omega (arith, sheet_size_lem, ltb-false room (length (sheet_text es)) (long_enough (unspoilt_to s 32) (eqb (length es) 0) (ltb room (length (sheet_text es))) e))
+        pub sheet_fits : header + found.size ≤ length b → sheet_size s ≤ length b
+        sheet_fits fits = omega (arith, whole, fits)
 
--- the number of notes that a survey has
-surveyed : (s : Session) → (survey_to s 32).notes ≡ length (entries_of s)
-unfolding survey_to entries_of
-surveyed s = refl
+    -- line 1 is laid
+    pub line_1 : (at : ℕ) (x : List ℕ) → (at ≡ length (header_text found.notes)) × (x ≡ copied b 0 (header_text found.notes)) → Laid s b at 0 x
+    unfolding entries_to lines_text
+    line_1 at x put =
+        let header : header_text found.notes ≡ so_far s 0 = ap header_text notes ∙ sym (append-nil (header_text (length (entries_of s)))) in
+        record { within = omega arith; behind = put.0 ∙ ap length header; laid = put.1 ∙ ap (copied b 0) header }
 
--- what is begun of a session's survey, and the buffer with line 1
-module _ (s : Session) (b₀ b₁ : List ℕ) (found : Found) (g : Begun) (is_found : found ≡ survey_to s 32) (is_begun : g ≡ beginning found (length b₀)) (is_laid : b₁ ≡ with_header found b₀) where
-  abbrev header : List ℕ
-  header = header_text (length (entries_of s))
+-- and the lines of so many slots
+module _ (s : Session) (b : List ℕ) (z : Slot) (none : z.status ≡ 0) (at i : ℕ) (x : List ℕ) (f : Laid s b at i x) where
+  pub passed : i < 32 → [] ≡ entry_of (i + 1) (get_or s.slots i z) → Laid s b at (i + 1) x
+  passed l nothing =
+      let same = entries_same s z none i l nothing in record { within = omega arith; behind = f.behind ∙ rw same; laid = f.laid ∙ rw same }
 
-  abbrev number : ℕ
-  number = write_number s (length b₀)
+  module _ (l : i < 32) (e : Entry) (its : e ∷ [] ≡ entry_of (i + 1) (get_or s.slots i z)) (fit : sheet_size s ≤ length b) where
+    next : so_far s (i + 1) ≡ so_far s i ++ line_text e
+    next = rw (lines_next s z none i l e its) (sym (append_assoc (header_text (length (entries_of s))) (lines_text (entries_to s i)) (line_text e)))
 
-  tested : (b : Bool) → eqb number accepted ≡ b → eqb (answer_of (survey_to s 32) (length b₀)).number accepted ≡ b
-  tested b e = rw (numbers s (length b₀)) e
+    room : length (so_far s i) + length (line_text e) ≤ length b
+    unfolding entries_of
+    room =
+        omega (
+          arith,
+          fit,
+          sheet_sizes s,
+          ap length next,
+          length-append (so_far s i) (line_text e),
+          length-append (header_text (length (entries_of s))) (lines_text (entries_to s (i + 1))),
+          lines_within s (i + 1) 32 (omega (arith, l)),
+        )
 
-  -- accepted: line 1 is laid, and the lines fit behind it
-  module _ (e : eqb number accepted ≡ true) where
-    begun_well : g ≡ record { answer = sheet_written s (length b₀); at = length header; slots = 32 }
-    unfolding beginning
-    begun_well = is_begun ∙ rw (is_found, tested true e, answers s (length b₀), surveyed s)
+    -- the next line fits
+    pub line_fits : (long : ℕ) → long ≡ length (line_text e) → at + long ≤ length b
+    line_fits long is_long = omega (arith, room, f.behind, is_long)
 
-    laid_well : b₁ ≡ copied b₀ 0 header
-    unfolding with_header
-    laid_well = is_laid ∙ rw (is_found, tested true e, surveyed s)
+    pub laid_next : (long : ℕ) (y : List ℕ) → (long ≡ length (line_text e)) × (y ≡ copied x at (line_text e)) → Laid s b (at + long) (i + 1) y
+    laid_next long y put =
+        record {
+          within = omega arith;
+          behind = rw next (omega (arith, put.0, f.behind, length-append (so_far s i) (line_text e)));
+          laid = put.1 ∙ rw (next, f.behind, f.laid) (ap (λ (k : ℕ). copied (copied b 0 (so_far s i)) k (line_text e)) (sym (zero-add (length (so_far s i)))) ∙ sym (part_laid b (so_far s i) (line_text e) 0 (omega (arith, room))));
+        }
 
-  -- refused: nothing is
-  module _ (e : eqb number accepted ≡ false) where
-    begun_not : g ≡ record { answer = sheet_written s (length b₀); at = 0; slots = 0 }
-    unfolding beginning
-    begun_not = is_begun ∙ rw (is_found, tested false e, answers s (length b₀))
-
-    laid_not : b₁ ≡ b₀
-    unfolding with_header
-    laid_not = is_laid ∙ rw (is_found, tested false e)
-
-  -- so all 32 slots are gone through or none,
-  pub few : g.slots ≤ 32
-  few = ⊎_elim (λ e. rw (begun_well e) (omega arith)) (λ e. rw (begun_not e) (omega arith)) (either (eqb number accepted))
-
-  pub as_long : length b₁ ≡ length b₀
-  as_long = ⊎_elim (λ e. rw (laid_well e) (length_copied b₀ header 0)) (λ e. ap length (laid_not e)) (either (eqb number accepted))
-
-  -- and what is to be laid of them fits
-  pub room_left : g.at + length (lines_text (entries_to s g.slots)) ≤ length b₀
-  unfolding entries_of entries_to lines_text
-  room_left =
-      ⊎_elim
-      (λ e. rw (begun_well e) (fits s (length b₀) (eqb-true number accepted e)))
-      (λ e. rw (begun_not e) (omega arith))
-      (either (eqb number accepted))
-
-  -- the sheet
-  pub all_written : (b₂ : List ℕ) → b₂ ≡ copied b₁ g.at (lines_text (entries_to s g.slots))
-      → (g.answer ≡ sheet_written s (length b₀)) × (b₂ ≡ with_sheet s b₀)
-  unfolding with_sheet sheet_text entries_of entries_to lines_text
-  all_written b₂ laid =
-      ⊎_elim
-      (λ e.
-      let room = fits s (length b₀) (eqb-true number accepted e) in
-      let lines = lines_text (entries_to s 32) in
-      let whole : copied b₁ (length header) lines ≡ (header ++ lines) ++ drop (length (header ++ lines)) b₀ =
-      rw (laid_well e, ← zero-add (length header)) (sym (part_laid b₀ header lines 0 (omega (arith, room))) ∙ copied_front b₀ (header ++ lines) (omega (arith, room, length-append header lines))) in
-      (ap (λ (x : Begun). x.answer) (begun_well e), laid ∙ rw (begun_well e, e) whole))
-      (λ e. (ap (λ (x : Begun). x.answer) (begun_not e), laid ∙ rw (begun_not e, e, laid_not e) (copied_none b₀ 0)))
-      (either (eqb number accepted))
+pub all_laid : (s : Session) (b : List ℕ) (at i : ℕ) (x : List ℕ) → Laid s b at i x → 32 ≤ i → x ≡ copied b 0 (so_far s 32)
+all_laid s b at i x f big =
+    let last : i ≡ 32 = omega (arith, f.within) in
+    subst (λ (n : ℕ). x ≡ copied b 0 (so_far s n)) last f.laid

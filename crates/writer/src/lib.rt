@@ -2,61 +2,38 @@
 // before all of it is known to fit.
 #![tactic(auto)]
 
-ghost use Rattle.std.specs.Prelude.{◌≡◌, ◌+◌, ◌*◌, ◌<◌, ◌≤◌, true, not, ◌&&◌, eqb, length};
-ghost use Rattle.slots.specs.Slots.{none, slot_in_order};
-ghost use Rattle.buffers.specs.Copy.{copied};
-ghost use Rattle.writing.specs.Texts.{line_text, lines_text};
+ghost use Rattle.std.specs.Prelude.{◌≡◌, ◌+◌, ◌<◌, ◌≤◌, length, IfOk};
+ghost use Rattle.std.specs.Option.{option_to_list};
+ghost use Rattle.refusal.specs.Table.{written_of};
+ghost use Rattle.writing.specs.Texts.{line_text};
 ghost use Rattle.writing.specs.Writing.{entry_of, sheet_written, with_sheet};
-ghost use Rattle.writer.specs.Survey.{survey_to, with_slot, answer_of, beginning, with_header};
+ghost use Rattle.writer.specs.Survey.{survey};
 
 use lines::Entry;
-use refusal::{ACCEPTED, NONE_LISTED, SHORT_BUFFER, SLOT_NOT_IN_ORDER, Written};
+use refusal::Refusal;
 use session::Session;
 use slots::{NONE, Slot};
 
-// What slots come to: that no listed one is out of order, how many are listed, and how many bytes their lines have.
+// What slots come to: how many are listed, and how many bytes their lines have.
 #[derive(Clone, Copy)]
 struct Found {
-    unspoilt: bool,
     notes: u32,
     size: usize,
 }
 
-// What is answered, where the lines begin, and how many slots are gone through for them: none where the call is refused, so that `write`
-// has no branch.
-#[derive(Clone, Copy)]
-struct Begun {
-    answer: Written,
-    at: usize,
-    slots: usize,
-}
-
-fn has_line(slot: Slot) -> bool
-    ensures { result ≡ not (eqb slot.status none) }
-{
-    slot.status != NONE
-}
-
-// What a sheet's line says of a listed slot, by its index.
-fn entry_at(index: usize, slot: Slot) -> Entry
+// What a sheet says of the slot at an index: nothing of one that is not listed.
+#[tactic(auto, using(writing::proofs::Notes::entry_listed, writing::proofs::Notes::entry_unlisted))]
+fn entry_at(index: usize, slot: &Slot) -> Option<Entry>
     requires { index < 32 }
-    ensures { result ≡ record { note = index + 1; sample = slot.sample } }
+    ensures { option_to_list result ≡ entry_of (index + 1) slot.now }
 {
-    let sample = slot.sample;
-    Entry {
+    if slot.status == NONE {
+        return None;
+    }
+    Some(Entry {
         note: index as u32 + 1,
-        sample,
-    }
-}
-
-fn nothing_found() -> Found
-    ensures { result ≡ record { unspoilt = true; notes = 0; size = 0 } }
-{
-    Found {
-        unspoilt: true,
-        notes: 0,
-        size: 0,
-    }
+        sample: slot.sample,
+    })
 }
 
 // How many bytes a line has: at most 109, four numbers of ten figures and 69 bytes beside them.
@@ -66,118 +43,42 @@ fn size_of(e: Entry) -> usize
     writing::line_size(e)
 }
 
-// Whether no listed slot is out of order, with one listed slot more.
-fn still_unspoilt(before: bool, slot: Slot) -> bool
-    ensures { result ≡ (before && slot_in_order slot) }
+// What all 32 slots come to; refused where a listed one is not in order.
+fn survey(s: &Session) -> Result<Found, Refusal>
+    ensures { (result ≡ survey s.now) × IfOk result (λ found. found.size ≤ 3488) }
 {
-    before && slots::slot_in_order(slot)
-}
-
-// One slot more.
-fn with_slot(before: Found, index: usize, slot: Slot) -> Found
-    requires { (index < 32) × (before.notes ≤ index) × (before.size ≤ index * 109) }
-    ensures { (result ≡ with_slot before (index + 1) slot) × (result.notes ≤ index + 1) × (result.size ≤ (index + 1) * 109) }
-{
-    if !has_line(slot) {
-        return before;
-    }
-    let size = size_of(entry_at(index, slot));
-    let unspoilt = still_unspoilt(before.unspoilt, slot);
-    Found {
-        unspoilt,
-        notes: before.notes + 1,
-        size: before.size + size,
-    }
-}
-
-// All 32 slots of a lent session.
-fn survey(s: &Session) -> Found
-    ensures { (result ≡ survey_to s.now 32) × (result.size ≤ 3488) }
-{
-    let mut found = nothing_found();
-    let mut i: usize = 0;
-    while i < 32 {
-        let slot = s.slots[i];
-        found = with_slot(found, i, slot);
-        i += 1;
-    }
-    found
-}
-
-fn refused(number: u8) -> Written
-    ensures { result ≡ record { number = number; count = 0 } }
-{
-    Written { number, count: 0 }
-}
-
-// Number and count, for a buffer of so many bytes.
-fn answer_of(found: Found, room: usize) -> Written
-    requires { found.size ≤ 3488 }
-    ensures { result ≡ answer_of found room }
-{
-    if !found.unspoilt {
-        return refused(SLOT_NOT_IN_ORDER);
-    }
-    if found.notes == 0 {
-        return refused(NONE_LISTED);
-    }
-    let count = writing::header_size(found.notes) + found.size;
-    if room < count {
-        return refused(SHORT_BUFFER);
-    }
-    Written {
-        number: ACCEPTED,
-        count,
-    }
-}
-
-// Line 1, where all of the sheet fits.
-fn begin(buffer: &mut [u8], found: Found) -> Begun
-    requires { found.size ≤ 3488 }
-    ensures { (result ≡ beginning found (length buffer.old))
-        × (buffer.new ≡ with_header found buffer.old) }
-{
-    let answer = answer_of(found, buffer.len());
-    if answer.number != ACCEPTED {
-        return Begun {
-            answer,
-            at: 0,
-            slots: 0,
+    let mut found = Found { notes: 0, size: 0 };
+    for (index, slot) in s.slots.iter().enumerate() {
+        let Some(entry) = entry_at(index, slot) else {
+            continue;
         };
+        if !slots::slot_in_order(*slot) {
+            return Err(Refusal::SlotNotInOrder);
+        }
+        found.notes += 1;
+        found.size += size_of(entry);
     }
-    let at = writing::put_header(buffer, 0, found.notes);
-    Begun {
-        answer,
-        at,
-        slots: 32,
-    }
-}
-
-// A slot's line from a place on, and the place behind it; nothing for a note that is not listed.
-fn put_slot(buffer: &mut [u8], at: usize, index: usize, slot: Slot) -> usize
-    requires { (index < 32) × (at + length (lines_text (entry_of (index + 1) slot)) ≤ length buffer.old) }
-    ensures { (result ≡ at + length (lines_text (entry_of (index + 1) slot)))
-        × (buffer.new ≡ copied buffer.old at (lines_text (entry_of (index + 1) slot))) }
-{
-    if !has_line(slot) {
-        return at;
-    }
-    at + writing::put_line(buffer, at, entry_at(index, slot))
+    Ok(found)
 }
 
 // Writes the sheet of a session, and answers how many bytes it has; refused, the buffer stays as it was.
-pub fn write(s: &Session, buffer: &mut [u8]) -> Written
-    ensures { (result ≡ sheet_written s.now (length buffer.old))
+pub fn write(s: &Session, buffer: &mut [u8]) -> Result<usize, Refusal>
+    ensures { (written_of result ≡ sheet_written s.now (length buffer.old))
         × (buffer.new ≡ with_sheet s.now buffer.old) }
 {
-    let found = survey(s);
-    let begun = begin(buffer, found);
-    let mut at = begun.at;
-    let mut i: usize = 0;
-    while i < begun.slots {
-        let slot = s.slots[i];
-        at = put_slot(buffer, at, i, slot);
-        i += 1;
+    let found = survey(s)?;
+    if found.notes == 0 {
+        return Err(Refusal::NoneListed);
     }
-    begun.answer
+    let size = writing::header_size(found.notes) + found.size;
+    if buffer.len() < size {
+        return Err(Refusal::ShortBuffer);
+    }
+    let mut at = writing::put_header(buffer, 0, found.notes);
+    for (index, slot) in s.slots.iter().enumerate() {
+        if let Some(entry) = entry_at(index, slot) {
+            at += writing::put_line(buffer, at, entry);
+        }
+    }
+    Ok(size)
 }

@@ -1,5 +1,5 @@
 pub mod Laying
 pub mod Sizes
-pub mod Lines
+pub mod Putting
 pub mod Notes
 pub mod Proved

@@ -1,9 +1,13 @@
 -- How long the texts are. Assumes nothing.
-use Prim.Native.Nat.{ℕ, ◌+◌, ◌*◌, ◌^◌, ◌≤◌, ◌<◌}
+use Prim.Native.Nat.{ℕ, zero, suc, ◌+◌, ◌*◌, ◌^◌, ◌≤◌, ◌<◌}
 use mathlib.Core.Path.{◌≡◌, refl}
 use mathlib.Core.List.{List, [], ◌∷◌, ◌++◌}
+use native.Mathlib.Nat.{pow-suc}
+use native.Mathlib.Numerals.{add-one}
 use native.Mathlib.Omega.{arith}
+use Rattle.std.specs.Prelude.{max}
 use lib.ListN.{length, length-append}
+use Rattle.decimal.specs.Numbers.{Decimal, figure, longer}
 use Rattle.decimal.specs.Writing.{decimal}
 use Rattle.decimal.proofs.Proved.{proved as numbers}
 use Rattle.lines.specs.declared.Entry.{Entry}
@@ -21,6 +25,25 @@ digest_size (byte ∷ bytes) = omega (arith, digest_size bytes)
 pub header_size : (count : ℕ) → length (header_text count) ≡ 8 + length (decimal count)
 unfolding header_text
 header_size count = omega (arith, field_size count 10)
+
+-- a number from a power of ten on has more figures than that power
+some_power : (k : ℕ) → 1 ≤ 10 ^ k
+some_power zero = omega arith
+some_power (suc k) = rw pow-suc (omega (arith, some_power k))
+
+past_power : (text : List ℕ) (value k : ℕ) → Decimal text value → 10 ^ k ≤ value → k < length text
+past_power text value zero (figure d below) low = omega arith
+past_power text value (suc k) (figure d below) low = absurd (omega (arith, some_power k, rw pow-suc at low))
+past_power text value zero (longer {text = front} d begun some below) low = omega (arith, length-append front ((0x30 + d) ∷ []))
+past_power text value (suc k) (longer {text = front} {value = high} d begun some below) low =
+    omega (arith, past_power front high k begun (omega (arith, rw pow-suc at low)), length-append front ((0x30 + d) ∷ []))
+
+-- and the powers of ten on both sides of a number tell how many it has
+pub so_many_figures : (n k : ℕ) → 10 ^ k ≤ max n 1 → max n 1 < 10 * 10 ^ k → k + 1 ≡ length (decimal n)
+so_many_figures zero zero low high = omega (arith, numbers.at_most 0 1 (omega arith) (omega arith))
+so_many_figures zero (suc k) low high = absurd (omega (arith, some_power k, rw pow-suc at low))
+so_many_figures (suc n) k low high =
+    omega (arith, past_power (decimal (suc n)) (suc n) k (numbers.spells (suc n)) (omega arith), numbers.at_most (suc n) (k + 1) (omega arith) (rw (add-one, pow-suc) (omega arith)))
 
 few : (n : ℕ) → n < 2 ^ 32 → length (decimal n) ≤ 10
 few n small = (numbers.at_most n 10 (omega arith) (omega arith)).1

@@ -1,3 +1,4 @@
 pub mod Texts
 pub mod Writing
 pub mod Promises
+pub mod Putting

@@ -1,42 +1,39 @@
 // A rank sheet as text: its header and its lines, how long they are, and laid in a lent buffer.
 #![tactic(auto)]
 
-ghost use Rattle.std.specs.Prelude.{◌≡◌, [], ◌∷◌, ◌++◌, ◌+◌, ◌*◌, ◌≤◌, leb, length};
+ghost use Rattle.std.specs.Prelude.{◌≡◌, [], ◌∷◌, ◌+◌, ◌≤◌, leb, length};
 ghost use Rattle.buffers.specs.Copy.{copied};
 ghost use Rattle.decimal.specs.Writing.{decimal};
 ghost use Rattle.writing.specs.Texts.{field_text, digest_text, line_text, header_text};
+ghost use Rattle.writing.specs.Putting.{HasRoom, Put};
 
-use lines::Entry;
-
-const TAB: u8 = 9;
-
-const LF: u8 = 10;
+use lines::{Entry, LF, TAB};
 
 // How many figures a number has.
-fn figures(n: u64) -> usize
-    ensures { (result ≡ length (decimal n)) × (result ≤ 20) }
+fn figures(n: u32) -> usize
+    ensures { (result ≡ length (decimal n)) × (result ≤ 10) }
 {
-    let laid = decimal::figures_of(n);
-    20 - laid.from
+    n.max(1).ilog10() as usize + 1
 }
 
 // How many bytes line 1 has: RANK and the edition with a tab behind each, the number of notes, LF.
+#[tactic(auto, using(crate::proofs::Sizes::header_size))]
 pub fn header_size(count: u32) -> usize
     ensures { result ≡ length (header_text count) }
 {
-    8 + figures(count as u64)
+    8 + figures(count)
 }
 
 // How many bytes a note's line has: four numbers with a tab behind each, 64 digits, LF.
+#[tactic(auto, using(crate::proofs::Sizes::line_size))]
 pub fn line_size(e: Entry) -> usize
     ensures { result ≡ length (line_text e) }
 {
-    let sample = e.sample;
-    let note = figures(e.note as u64);
-    let size = figures(sample.length as u64);
-    let start = figures(sample.loop_start as u64);
-    let end = figures(sample.loop_end as u64);
-    note + size + start + end + 69
+    figures(e.note)
+        + figures(e.sample.length)
+        + figures(e.sample.loop_start)
+        + figures(e.sample.loop_end)
+        + 69
 }
 
 // Whether so many bytes fit behind a place. What room is left is compared with it: their sum could pass 2^64.
@@ -46,78 +43,90 @@ fn fits(room: usize, at: usize, size: usize) -> bool
     size <= room && at <= room - size
 }
 
-// A number from a place on, and the byte that ends its field; answers the place behind it.
-fn put_field(buffer: &mut [u8], at: usize, value: u64, ending: u8) -> usize
-    requires { at + length (field_text value ending) ≤ length buffer.old }
-    ensures { (result ≡ at + length (field_text value ending))
-        × (buffer.new ≡ copied buffer.old at (field_text value ending)) }
-{
-    let next = at + decimal::write(buffer, at, value);
-    buffer[next] = ending;
-    next + 1
+// A line that is laid in a lent buffer, and where its next byte goes.
+#[derive(Drop)]
+struct Line<'a> {
+    buffer: &'a mut [u8],
+    at: usize,
 }
 
-// Two numbers from a place on, a tab behind each.
-fn put_two(buffer: &mut [u8], at: usize, first: u64, second: u64) -> usize
-    requires { at + length (field_text first 9 ++ field_text second 9) ≤ length buffer.old }
-    ensures { (result ≡ at + length (field_text first 9 ++ field_text second 9))
-        × (buffer.new ≡ copied buffer.old at (field_text first 9 ++ field_text second 9)) }
-{
-    let next = put_field(buffer, at, first, TAB);
-    put_field(buffer, next, second, TAB)
-}
-
-// A digest's digits from a place on, two for each byte, and the line's end.
-fn put_digest(buffer: &mut [u8], at: usize, digest: &[u8])
-    requires { at + 2 * length digest.now + 1 ≤ length buffer.old }
-    ensures { buffer.new ≡ copied buffer.old at (digest_text digest.now ++ (10 ∷ [])) }
-{
-    let mut i = 0;
-    while i < digest.len() {
-        let byte = digest[i];
-        buffer[at + 2 * i] = hex_digits::letter_of(byte / 16);
-        buffer[at + 2 * i + 1] = hex_digits::letter_of(byte % 16);
-        i += 1;
+impl Line<'_> {
+    #[tactic(auto, using(crate::proofs::Putting::sizes))]
+    fn put_byte(&mut self, byte: u8)
+        requires { HasRoom self.old (byte ∷ []) }
+        ensures { Put self.old (byte ∷ []) self.new }
+    {
+        self.buffer[self.at] = byte;
+        self.at += 1;
     }
-    buffer[at + 2 * i] = LF;
+
+    fn put_bytes(&mut self, bytes: &[u8])
+        requires { HasRoom self.old bytes.now }
+        ensures { Put self.old bytes.now self.new }
+    {
+        buffers::copy(self.buffer, self.at, bytes);
+        self.at += bytes.len();
+    }
+
+    fn put_number(&mut self, value: u32)
+        requires { HasRoom self.old (decimal value) }
+        ensures { Put self.old (decimal value) self.new }
+    {
+        let figures = decimal::write(self.buffer, self.at, value as u64);
+        self.at += figures;
+    }
+
+    // A number, and the byte that ends its field.
+    #[tactic(auto, using(crate::proofs::Putting::sizes), unfolding(crate::specs::Texts::field_text))]
+    fn put_field(&mut self, value: u32, ending: u8)
+        requires { HasRoom self.old (field_text value ending) }
+        ensures { Put self.old (field_text value ending) self.new }
+    {
+        self.put_number(value);
+        self.put_byte(ending);
+    }
+
+    // A digest's digits, two for each byte.
+    #[tactic(auto, using(crate::proofs::Putting::sizes))]
+    fn put_digest(&mut self, digest: &[u8])
+        requires { HasRoom self.old (digest_text digest.now) }
+        ensures { Put self.old (digest_text digest.now) self.new }
+    {
+        for byte in digest {
+            self.put_byte(hex_digits::letter_of(byte / 16));
+            self.put_byte(hex_digits::letter_of(byte % 16));
+        }
+    }
 }
 
 // Writes line 1 from a place on, where all of it fits, and nothing where it does not. Answers how many bytes it has, also then.
+#[tactic(auto, using(crate::proofs::Putting::sizes), unfolding(crate::specs::Texts::header_text))]
 pub fn put_header(buffer: &mut [u8], at: usize, count: u32) -> usize
     ensures { (result ≡ length (header_text count)) × (buffer.new ≡ copied buffer.old at (header_text count)) }
 {
     let size = header_size(count);
     if fits(buffer.len(), at, size) {
-        buffers::copy(buffer, at, b"RANK\t1\t");
-        put_field(buffer, at + 7, count as u64, LF);
+        let mut line = Line { buffer, at };
+        line.put_bytes(b"RANK\t1\t");
+        line.put_field(count, LF);
     }
     size
 }
 
-// A note's line from a place on.
-fn lay_line(buffer: &mut [u8], at: usize, e: Entry)
-    requires { at + length (line_text e) ≤ length buffer.old }
-    ensures { buffer.new ≡ copied buffer.old at (line_text e) }
-{
-    let sample = e.sample;
-    let digest = sample.digest;
-    let loop_at = put_two(buffer, at, e.note as u64, sample.length as u64);
-    let digest_at = put_two(
-        buffer,
-        loop_at,
-        sample.loop_start as u64,
-        sample.loop_end as u64,
-    );
-    put_digest(buffer, digest_at, &digest);
-}
-
 // Writes a note's line from a place on, where all of it fits, and nothing where it does not. Answers how many bytes it has, also then.
+#[tactic(auto, using(crate::proofs::Putting::sizes), unfolding(crate::specs::Texts::line_text))]
 pub fn put_line(buffer: &mut [u8], at: usize, e: Entry) -> usize
     ensures { (result ≡ length (line_text e)) × (buffer.new ≡ copied buffer.old at (line_text e)) }
 {
     let size = line_size(e);
     if fits(buffer.len(), at, size) {
-        lay_line(buffer, at, e);
+        let mut line = Line { buffer, at };
+        line.put_field(e.note, TAB);
+        line.put_field(e.sample.length, TAB);
+        line.put_field(e.sample.loop_start, TAB);
+        line.put_field(e.sample.loop_end, TAB);
+        line.put_digest(&e.sample.digest);
+        line.put_byte(LF);
     }
     size
 }

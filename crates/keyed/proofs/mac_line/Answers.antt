@@ -1,12 +1,6 @@
--- `mac_line` reads the MAC line, step by step. Assumes nothing.
-use Rattle.keyed.proofs.Judging.{mac_line_lem}
+-- `mac_line` reads the MAC line, step by step: the first fault is the line's. Assumes nothing.
+use Rattle.keyed.proofs.Judging.{whole_mac}
 use Rattle.keyed.proofs.mac_line.Goals as goal
 
 pub returns : goal.returns
-returns c =
-    let close = c in
-    let digits = close in
-    let tabbed = digits in
-    let mac = tabbed in
-    mac_line_lem _ _ _ _ _ _ _
-    mac.good_stop.ensures mac.word_after-word.ensures tabbed.mark_after-tab.ensures digits.digest_after-digits.ensures close.mark_after-stop.ensures
+returns c = whole_mac _ _ _ c.in_ok-word.ensures _ c.in_ok-tab.ensures _ c.in_ok-code.ensures _ c.in_ok-next.ensures

@@ -5,11 +5,7 @@ use Rattle.keyed.proofs.read.Goals as goal
 
 pub returns : goal.returns
 returns c =
-    let filled = c in
-    let start = filled in
-    let header = start in
-    let judged = header in
-    let covered = judged in
-    answered_whole _ _ _ _ _ _ _ covered.mac_number-number.ensures covered.covered-rest.ensures.result_value
-    (sheet_session _ _ _ _ _ judged.judged-v.ensures header.header_at.ensures start.start_of-from.ensures filled.filled-session.ensures)
-    c.verdict_of.ensures
+    rw c.from.ensures
+    (answered_whole _ _ _ _ _ _ _ c.mac_number-mac.ensures c.covered-rest.ensures.result_value
+    (sheet_session _ _ _ _ _ c.judged-judged.ensures c.header_at.ensures c.start_of-from.ensures c.filled-session.ensures)
+    c.verdict_of.ensures)

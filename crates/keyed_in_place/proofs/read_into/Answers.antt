@@ -4,4 +4,4 @@ use Rattle.keyed_in_place.proofs.read_into.Goals as goal
 
 pub returns : goal.returns
 returns c =
-    answered c.args.key.now c.args.text.now _ _ _ _ _ c.mac_number-number.ensures c.covered-sheet.ensures.result_value c.read_into-v.ensures c.verdict_of.ensures
+    answered c.args.key.now c.args.text.now _ _ _ _ _ c.mac_number-mac.ensures c.covered.ensures.result_value c.read_into-judged.ensures c.verdict_of.ensures

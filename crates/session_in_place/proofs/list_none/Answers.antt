@@ -1,9 +1,13 @@
 -- No count is left, and no note is listed. Assumes nothing.
-use Rattle.std.proofs.Common.{arith, ◌≡◌, subst}
-use Rattle.session_in_place.proofs.Filling.{Emptied, all_empty}
+use Rattle.std.proofs.Common.{rules, ◌≡◌, length, replicate}
+use Rattle.slots.specs.Slots.{empty_slot}
+use Rattle.session.specs.Sessions.{empty_session}
+use Rattle.session.proofs.Lists.{length_of_image}
 use Rattle.session_in_place.proofs.list_none.Goals as goal
 
 pub returns : goal.returns
+unfolding empty_session
 returns c =
-    let all : c.loop-i.i ≡ 32 = omega (arith, c.loop-i.invariant.0, c.loop-i-test.false) in
-    all_empty c.loop-i.s (subst (λ n. Emptied n c.loop-i.s) all c.loop-i.invariant.1)
+    let all : length c.args.s.now.slots ≡ 32 = search (rules, length_of_image, c.well_formed) in
+    let filled : c.fill.new.self ≡ replicate (length c.args.s.now.slots) c.empty_slot.result = search rules in
+    rw (filled, all, c.empty_slot.ensures)

@@ -1,12 +1,12 @@
 -- `decided_slot` decides a note. Assumes nothing.
-use mathlib.Core.Path.{sym, ap, ◌∙◌}
-use Rattle.slots.specs.Delivery.{decided_slot}
+use Rattle.slots.proofs.Deliver.{decided_told}
+use Rattle.slots.proofs.decided_slot.Goals.{then-same, else-same}
 use Rattle.slots.proofs.decided_slot.Goals as goal
 
-pub returns-then-compared : goal.returns-then-compared
-unfolding decided_slot
-returns-then-compared c = simp (c.fresh-state.ensures, ap (λ r. r.same) (sym c.matches-compared.ensures) ∙ c.if-compared.true)
-
-pub returns-else-compared : goal.returns-else-compared
-unfolding decided_slot
-returns-else-compared c = simp (c.fresh-state.ensures, ap (λ r. r.same) (sym c.matches-compared.ensures) ∙ c.if-compared.false)
+pub returns : goal.returns
+returns c =
+    decided_told c.args.s c.args.h c.matches.result c.matches.ensures _ c.fresh.ensures _
+    (elim c.if-same.branch [
+      | then-same w ↦ rw (w.result-is, ← w.if-same.ensures)
+      | else-same w ↦ rw (w.result-is, ← w.if-same.ensures)
+    ])

@@ -1,13 +1,22 @@
 -- `survey` goes through the slots. Assumes nothing.
-use Rattle.std.proofs.Common.{rules, ◌≡◌, length}
-use Rattle.session.proofs.Lists.{length_of_image}
-use Rattle.writer.proofs.Turns.{begun, turned}
+use borrow.Author.Rules.{rules}
+use mathlib.Core.Path.{refl}
+use Rattle.writer.proofs.Surveys.{begun, skipped, counted, spoilt, surveyed}
 use Rattle.writer.proofs.survey.Goals as goal
 
-pub loop-i-init : goal.loop-i-init
-loop-i-init c = begun c.args.s.now _ c.nothing_found-found.ensures
+pub loop-index-init : goal.loop-index-init
+loop-index-init c = begun c.args.s.now
 
-pub loop-i-preserved : goal.loop-i-preserved
-loop-i-preserved c =
-    let all : length c.args.s.now.slots ≡ 32 = search (rules, length_of_image) in
-    turned c.args.s.now _ _ c.loop-i.invariant all _ c.loop-i-test.true _ c.with_slot-found.ensures
+pub loop-index-preserved-in_default : goal.loop-index-preserved-in_default
+loop-index-preserved-in_default c = skipped c.args.s.now _ refl _ _ c.loop-index.invariant c.loop-index-test.true c.in_default.ensures
+
+pub returns-then-not-slot_in_order : goal.returns-then-not-slot_in_order
+returns-then-not-slot_in_order c =
+    (spoilt c.args.s.now _ refl _ _ c.loop-index.invariant c.loop-index-test.true _ c.in-Some.ensures _ c.slot_in_order.ensures (search rules), tt)
+
+pub loop-index-preserved : goal.loop-index-preserved
+loop-index-preserved c =
+    counted c.args.s.now _ refl _ _ c.loop-index.invariant c.loop-index-test.true _ c.in-Some.ensures _ c.slot_in_order.ensures (search rules) _ c.size_of.ensures
+
+pub returns : goal.returns
+returns c = surveyed c.args.s.now _ _ c.loop-index.invariant c.loop-index-test.false

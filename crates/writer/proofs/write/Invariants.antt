@@ -1,10 +1,6 @@
--- `write` lays the line of slot after slot. The invariant: those of so many slots are laid behind line 1. Assumes nothing.
-use Rattle.std.proofs.Common.{◌-◌}
-use Rattle.writer.proofs.Turns.{Laid}
+-- `write` lays the line of slot after slot. The invariant: line 1 and those of so many slots are laid. Assumes nothing.
+use Rattle.writer.proofs.Sheets.{Laid}
 use Rattle.writer.proofs.write.Given as goal
 
-abbrev pub invariant-loop-i : goal.invariant-loop-i
-invariant-loop-i l = Laid l.s l.begun.at l.begun.slots l.initial.buffer l.at l.i l.buffer
-
-abbrev pub decreases-loop-i : goal.decreases-loop-i
-decreases-loop-i l = l.begun.slots - l.i
+abbrev pub invariant-loop-index : goal.invariant-loop-index
+invariant-loop-index l = Laid l.s l.fn.buffer l.at l.index l.buffer

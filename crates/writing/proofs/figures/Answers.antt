@@ -1,11 +1,8 @@
--- `figures` counts what `figures_of` lays. Assumes nothing.
+-- `figures`: one more than the highest power of ten in the number. Assumes nothing.
 use native.Mathlib.Omega.{arith}
 use borrow.Author.Rules.{rules}
-use Rattle.decimal.proofs.Laying.{from_within, so_many}
+use Rattle.writing.proofs.Sizes.{so_many_figures}
 use Rattle.writing.proofs.figures.Goals as goal
 
-pub overflow_sub-result : goal.overflow_sub-result
-overflow_sub-result c = let f = c.figures_of-laid in from_within _ (search rules) f.result f.ensures
-
 pub returns : goal.returns
-returns c = let f = c.figures_of-laid in (so_many _ (search rules) f.result f.ensures, omega arith)
+returns c = search (rules, arith, so_many_figures)
