@@ -1,10 +1,9 @@
 -- A slot that is fed, in whatever session it stands; and why the feeding ends. Assumes nothing.
-use Prim.Native.Nat.{ℕ, ◌+◌, ◌-◌, ◌≤◌, ◌<◌}
+use Prim.Native.Nat.{ℕ, suc, ◌+◌, ◌-◌, ◌≤◌, ◌<◌}
 use mathlib.Core.Path.{◌≡◌, sym, ap, ◌∙◌, subst}
 use mathlib.Core.List.{List}
 use mathlib.Core.Bool.{true}
 use native.Mathlib.Omega.{arith}
-use native.Mathlib.Numerals.{add-one}
 use lib.ListN.{length, set, get_or}
 use lib.Seq.{set-set}
 use Rattle.refusal.specs.Table.{accepted}
@@ -143,8 +142,8 @@ module _ (t : Session) (all : length t.slots ≡ 32) (z : Slot) (note i count : 
   unfolding put_counted put_slot
   note_there loaded = rw (counts, read_there t note all z i at, at) (loaded t all (sym (read_there t note all z i at)))
 
-pub note_more : (s t u : Session) (n : ℕ) → LoadedTo s n t → NoteLoaded (n + 1) t u → LoadedTo s (n + 1) u
-note_more s t u n so loaded = rw add-one (next so (rw add-one at loaded))
-
-pub all_notes : (s t : Session) (n : ℕ) → n ≤ 32 → 32 ≤ n → LoadedTo s n t → LoadedTo s 32 t
-all_notes s t n small done so = let all : n ≡ 32 = omega arith in rw all at so
+pub note_more : (s t u : Session) (note : ℕ) → 1 ≤ note → LoadedTo s (note - 1) t → NoteLoaded note t u → LoadedTo s ((note + 1) - 1) u
+note_more s t u note one so loaded =
+    let this : suc (note - 1) ≡ note = omega arith in
+    let after : (note + 1) - 1 ≡ suc (note - 1) = omega arith in
+    rw after (next {u = u} so (rw this loaded))

@@ -22,7 +22,8 @@ const PIECE: usize = 4096;
 // So many notes can be listed.
 const NOTES: u64 = 32;
 
-// Reads until buf is full, the file ends or a read fails, and returns how many bytes it put at the start of buf.
+// Reads until buf is full, the file ends or a read fails, and returns how many bytes it put at the start of buf. std's `read_exact` does not
+// say how many came before the end, and `read_to_end` asks for memory, where it can fail and this cannot.
 fn read_full<F: Read>(file: &mut F, buf: &mut [u8]) -> usize
     ensures { result ≤ length buf.new }
 {
@@ -42,19 +43,17 @@ fn feed<F: Read>(file: &mut F, note: u64, slot: Slot) -> Slot
     ensures { OfSlot (Fed note) note slot result }
 {
     let mut now = slot;
+    let mut piece = [0u8; PIECE];
     loop {
-        let mut piece = [0u8; PIECE];
         let n = read_full(file, &mut piece);
         if n == 0 {
             return now;
         }
         let step = slots::deliver_at(now, note, &piece[..n]);
-        let answer = step.answer;
-        if answer.number != ACCEPTED {
+        if step.answer.number != ACCEPTED {
             return now;
         }
-        let next = step.slot;
-        now = next;
+        now = step.slot;
         if n < PIECE {
             return now;
         }
@@ -75,18 +74,16 @@ fn load<R: Files>(rt: &R, folder: &[u8], note: u64, slot: Slot) -> Slot
 }
 
 // The session once its listed notes are loaded, rising. One slot is copied at a time.
+#[tactic(auto, using(session::proofs::Putting::index_lt))]
 fn load_all<R: Files>(rt: &R, folder: &[u8], mut session: Session) -> Session
     ensures { Loaded session result }
 {
-    let mut done: u64 = 0;
-    while done < NOTES {
-        let note = done + 1;
+    for note in 1..=NOTES {
         let index = session::slot_index(note);
         let slot = session.slots[index];
         let after = load(rt, folder, note, slot);
         session.slots[index] = after;
         session.opened = session::open_after(session.opened, slot.status, after.status);
-        done = note;
     }
     session
 }
@@ -113,15 +110,12 @@ pub fn shown<R: Files>(rt: &R, folder: &[u8]) -> Text
     if verdict.number != ACCEPTED {
         return report::refused_line(verdict.number, verdict.line);
     }
-    let session = sheet.session;
-    report::session_lines(load_all(rt, folder, session))
+    report::session_lines(load_all(rt, folder, sheet.session))
 }
 
 // Prints that text, or fails where it cannot be written. The folder's name ends in `/`, or is empty for the folder that the program is run
 // in.
 pub fn run<R: Files + Print>(rt: &R, folder: &[u8]) -> io::Result<()> {
-    let text = shown(rt, folder);
-    let bytes = text.bytes;
-    let n = text.length;
-    rt.write_all(&bytes[..n])
+    let Text { bytes, length } = shown(rt, folder);
+    rt.write_all(&bytes[..length])
 }

@@ -16,6 +16,9 @@ use Rattle.texts.specs.declared.Text.{Text}
 use Rattle.texts.proofs.Parts.{next, of_none}
 use Rattle.slots.specs.Slots.{waiting, opened}
 use Rattle.slots.specs.declared.Answer.{Answer}
+use Rattle.rules.proofs.Rules.{is_note_is}
+use Rattle.session.specs.Sessions.{slot_index}
+use Rattle.session.proofs.Putting.{index_of_note}
 use Rattle.session.specs.Operations.{ask}
 use Rattle.session.specs.declared.Session.{Session}
 use Rattle.report.specs.Report.{word, note_line, line_of, lines_to, report}
@@ -137,6 +140,10 @@ lines_short s counted (suc n) small =
 pub report_short : (s : Session) → Counted s → length (report s) ≤ 1024
 unfolding report
 report_short s counted = lines_short s counted 32 (omega arith)
+
+-- a slot's place is the index of its note
+pub place_is : (n : ℕ) → n < 32 → n ≡ slot_index (n + 1)
+place_is n small = sym (index_of_note (n + 1) ((is_note_is (n + 1)).1 (omega arith, omega arith)) ∙ omega arith)
 
 -- the answer that was asked for is the one whose line is put
 pub asked_more : (s : Session) (n : ℕ) (text after : Text) (a : Answer) → n < 32 → LinesTo s n text → a ≡ ask s (n + 1) → a.taken < 2 ^ 64

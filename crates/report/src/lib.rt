@@ -10,20 +10,16 @@ use session::Session;
 use slots::{Answer, OPENED, WAITING};
 use texts::Text;
 
-// So many notes can be listed.
-const NOTES: u64 = 32;
-
-// The text with a status behind it, as a word.
-fn with_word(text: Text, status: u8) -> Text
-    ensures { result ≡ with_part text (word status) }
+// The word of a status.
+#[tactic(auto, unfolding(crate::specs::Report::word))]
+fn word(status: u8) -> &'static [u8]
+    ensures { result.now ≡ word status }
 {
-    if status == WAITING {
-        return texts::with(text, b"waiting");
+    match status {
+        WAITING => b"waiting",
+        OPENED => b"open",
+        _ => b"shut",
     }
-    if status == OPENED {
-        return texts::with(text, b"open");
-    }
-    texts::with(text, b"shut")
 }
 
 // The line of a note: note, word, bytes taken, tab-parted.
@@ -31,7 +27,7 @@ pub fn note_line(note: u64, a: Answer) -> Text
     ensures { result ≡ text_of (note_line note a) }
 {
     let noted = texts::with(texts::with_number(texts::empty(), note), b"\t");
-    let worded = texts::with(with_word(noted, a.status), b"\t");
+    let worded = texts::with(texts::with(noted, word(a.status)), b"\t");
     texts::with(texts::with_number(worded, a.taken), b"\n")
 }
 
@@ -45,6 +41,7 @@ pub fn refused_line(number: u8, line: u32) -> Text
 }
 
 // The text with a note's line behind it, if the note is listed.
+#[tactic(auto, using(texts::proofs::Parts::text_within))]
 fn with_note(text: Text, note: u64, a: Answer) -> Text
     ensures { result ≡ with_part text (line_of note a) }
 {
@@ -52,9 +49,7 @@ fn with_note(text: Text, note: u64, a: Answer) -> Text
         return text;
     }
     let line = note_line(note, a);
-    let bytes = line.bytes;
-    let n = line.length;
-    texts::with(text, &bytes[..n])
+    texts::with(text, &line.bytes[..line.length])
 }
 
 // The lines of a session's listed notes, rising.
@@ -62,14 +57,9 @@ pub fn session_lines(session: Session) -> Text
     ensures { result ≡ text_of (report session) }
 {
     let mut text = texts::empty();
-    let mut done: u64 = 0;
-    while done < NOTES {
-        let note = done + 1;
-        let index = session::slot_index(note);
-        let slot = session.slots[index];
-        let next = with_note(text, note, slots::ask_at(slot, note));
-        text = next;
-        done = note;
+    for (index, slot) in session.slots.iter().enumerate() {
+        let note = index as u64 + 1;
+        text = with_note(text, note, slots::ask_at(*slot, note));
     }
     text
 }

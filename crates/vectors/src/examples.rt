@@ -1,52 +1,38 @@
 // The small examples of document 01 that are run: the digest of "abc", and a state that has taken 2^61 - 1 bytes.
-use hash::Hash;
+use hash::{Hash, Updated};
 use std::io;
 use units::LONGEST;
 
-fn print(rt: &impl Print, text: &[u8]) -> io::Result<()> {
-    rt.write_all(text)
-}
-
-// The bytes of a digest, by words parted by blanks, as 01 prints them.
-fn print_digest(rt: &impl Print, bytes: &[u8]) -> io::Result<()> {
-    let mut i = 0;
-    while i < bytes.len() {
-        if i % 4 == 0 {
-            print(rt, b" ")?;
+// A digest, by words parted by blanks, as 01 prints it.
+fn print_digest(rt: &impl Print, name: &str, message: &[u8]) -> io::Result<()> {
+    print!(rt; "{name}:")?;
+    // no message that is held in memory is refused
+    let bytes = hash::digest_of(message).unwrap_or([0; 32]);
+    for word in bytes.chunks_exact(4) {
+        print!(rt; " ")?;
+        for b in word {
+            print!(rt; "{b:02x}")?;
         }
-        print_byte(rt, bytes[i])?;
-        i += 1;
     }
-    print(rt, b"\n")
+    println!(rt)
 }
 
-fn print_byte(rt: &impl Print, b: u8) -> io::Result<()> {
-    print!(rt; "{b:02x}")
-}
-
-// A state in order that has taken as many bytes as a message may have.
-fn full() -> Hash {
-    Hash {
+// A state in order that has taken as many bytes as a message may have, and what it makes of a piece more.
+fn print_update(rt: &impl Print, name: &str, piece: &[u8]) -> io::Result<()> {
+    let full = Hash {
         words: Hash::START,
         total: LONGEST,
         tail: [0; 64],
-    }
-}
-
-fn print_update(rt: &impl Print, name: &[u8], piece: &[u8]) -> io::Result<()> {
-    let u = full().update(piece);
-    print(rt, name)?;
-    print!(rt; ": number {}", u.number)?;
-    let after = u.state;
-    print!(rt; ", total afterwards {}", after.total)?;
-    print(rt, b"\n")
+    };
+    let u = Updated::told(full, full.update(piece));
+    println!(rt;
+        "total 2^61 - 1, {name}: number {}, total afterwards {}",
+        u.number, u.state.total
+    )
 }
 
 pub fn run(rt: &impl Print) -> io::Result<()> {
-    let d = hash::digest_of(b"abc");
-    let bytes = d.bytes;
-    print(rt, b"abc:")?;
-    print_digest(rt, &bytes)?;
-    print_update(rt, b"total 2^61 - 1, an empty piece", b"")?;
-    print_update(rt, b"total 2^61 - 1, one byte", b"x")
+    print_digest(rt, "abc", b"abc")?;
+    print_update(rt, "an empty piece", b"")?;
+    print_update(rt, "one byte", b"x")
 }

@@ -1,259 +1,229 @@
 // One data file, line by line: what each line prints is held against what the library gives.
-use crate::trace::{Message, Wanted};
+use crate::trace::Block;
 use crate::{text, trace};
+use std::alloc::{AllocError, Global};
+use std::fmt;
 
 // How many of each were compared, and how many lines differ.
-#[derive(Clone, Copy)]
+#[derive(Clone, Copy, Default)]
 pub struct Tally {
-    pub messages: u64,
-    pub words: u64,
-    pub primed: u64,
-    pub rows: u64,
-    pub chained: u64,
-    pub padded: u64,
-    pub digests: u64,
-    pub differ: u64,
+    messages: u64,
+    words: u64,
+    primed: u64,
+    rows: u64,
+    chained: u64,
+    padded: u64,
+    digests: u64,
+    differ: u64,
 }
+
+impl fmt::Display for Tally {
+    fn fmt<W: fmt::Write>(&self, f: &mut fmt::Formatter<W>) -> fmt::Result {
+        write!(
+            f,
+            "messages {}\twords {}\tprimed {}\trows {}",
+            self.messages, self.words, self.primed, self.rows
+        )?;
+        write!(
+            f,
+            "\tchained {}\tpadded {}\tdigests {}\tdiffer {}",
+            self.chained, self.padded, self.digests, self.differ
+        )
+    }
+}
+
+// What a line of words lists: words of the padded message, the expansion's words W and W', a row of registers, a chaining value, the
+// message's digest.
+#[derive(Clone, Copy, PartialEq, Eq, Debug)]
+enum Kind {
+    Padded,
+    Expanded,
+    Primed,
+    Row,
+    Chained,
+    Digest,
+}
+
+// What a line is.
+#[derive(Clone, Copy, PartialEq, Eq, Debug)]
+enum Line {
+    Comment,
+    Message,
+    Block,
+    Words(Kind),
+}
+
+// A line that begins with another byte.
+#[derive(Clone, Copy, PartialEq, Eq, Debug)]
+struct UnknownLine;
+
+impl TryFrom<u8> for Line {
+    type Error = UnknownLine;
+
+    fn try_from(first: u8) -> Result<Line, UnknownLine> {
+        match first {
+            0 | b'#' => Ok(Line::Comment),
+            b'M' => Ok(Line::Message),
+            b'K' => Ok(Line::Block),
+            b'B' => Ok(Line::Words(Kind::Padded)),
+            b'W' => Ok(Line::Words(Kind::Expanded)),
+            b'P' => Ok(Line::Words(Kind::Primed)),
+            b'R' => Ok(Line::Words(Kind::Row)),
+            b'V' => Ok(Line::Words(Kind::Chained)),
+            b'D' => Ok(Line::Words(Kind::Digest)),
+            _ => Err(UnknownLine),
+        }
+    }
+}
+
+// The most bytes of a message, and of one line of it.
+const MESSAGE_BYTES: usize = 256;
+
+const LINE_BYTES: usize = 64;
+
+// The most words of a line, and how many bytes of the line each takes: a byte that parts it from what is before it, and eight digits.
+const LINE_WORDS: usize = 8;
+
+const WORD_ROOM: usize = 9;
 
 // Where the run stands: the message, whether the line before was of it, the blocks begun, and how many words of each kind were seen of
 // this block (of the message, for padded words).
-#[derive(Clone, Copy)]
+#[derive(Drop)]
 pub struct Run {
-    pub message: Message,
-    pub joining: bool,
-    pub begun: usize,
-    pub w: usize,
-    pub w1: usize,
-    pub rows: usize,
-    pub padded: usize,
-    pub bad: bool,
+    message: Vec<u8>,
+    joining: bool,
+    begun: usize,
+    expanded: usize,
+    primed: usize,
+    rows: usize,
+    padded: usize,
     pub tally: Tally,
 }
 
-// What a line of words came to.
-#[derive(Clone, Copy)]
-struct Seen {
-    good: bool,
-    words: usize,
-}
-
-pub fn start() -> Run {
-    Run {
-        message: Message {
-            bytes: [0u8; 256],
-            length: 0,
-        },
-        joining: false,
-        begun: 0,
-        w: 0,
-        w1: 0,
-        rows: 0,
-        padded: 0,
-        bad: false,
-        tally: Tally {
-            messages: 0,
-            words: 0,
+impl Run {
+    pub fn new(alloc: Global) -> Run {
+        Run {
+            message: Vec::new(alloc),
+            joining: false,
+            begun: 0,
+            expanded: 0,
             primed: 0,
             rows: 0,
-            chained: 0,
             padded: 0,
-            digests: 0,
-            differ: 0,
-        },
-    }
-}
-
-fn plus(n: u64, more: usize) -> u64 {
-    std::num::wrapping_add_u64(n, more as u64)
-}
-
-fn further(n: usize, more: usize) -> usize {
-    std::num::wrapping_add_usize(n, more)
-}
-
-// What the library has for word i of a line of this kind, counted as the run stands.
-fn wanted(run: Run, kind: u8, i: usize) -> Wanted {
-    let m = run.message;
-    let block = std::num::wrapping_sub_usize(run.begun, 1);
-    match kind {
-        b'B' => trace::padded(m, further(run.padded, i)),
-        b'W' => trace::w(m, block, further(run.w, i)),
-        b'P' => trace::w1(m, block, further(run.w1, i)),
-        b'R' => trace::register(m, block, run.rows, i),
-        b'V' => trace::next_value(m, block, i),
-        _ => trace::digest(m, i),
-    }
-}
-
-// Up to eight words of a line, each beside the library's.
-fn words_line(run: Run, kind: u8, line: &[u8]) -> Seen {
-    let mut good = true;
-    let mut k: usize = 0;
-    while k < 8 {
-        let at = 2 + 9 * k;
-        if line.len() < at {
-            return Seen { good, words: k };
+            tally: Tally::default(),
         }
-        let printed = text::word(line, at);
-        let own = wanted(run, kind, k);
-        good = good & printed.ok & own.there & (printed.value == own.word);
-        k += 1;
     }
-    Seen {
-        good: good & (line.len() <= 73),
-        words: 8,
-    }
-}
 
-// A message with more bytes, and whether they were bytes and had room.
-#[derive(Clone, Copy)]
-struct Longer {
-    good: bool,
-    message: Message,
-}
-
-// With the byte at a place of an M line, where the line has one there.
-fn with_byte(now: Longer, line: &[u8], at: usize) -> Longer {
-    if line.len() <= at {
-        return now;
+    // Takes one line of a data file, and says whether it agrees.
+    pub fn line(&mut self, line: &[u8]) -> Result<bool, AllocError> {
+        let agrees = self.agrees(line)?;
+        if !agrees {
+            self.tally.differ = self.tally.differ.saturating_add(1);
+        }
+        Ok(agrees)
     }
-    let b = text::pair(line, at);
-    let mut m = now.message;
-    let to = m.length;
-    if 256 <= to {
-        return Longer {
-            good: false,
-            message: m,
+
+    fn agrees(&mut self, line: &[u8]) -> Result<bool, AllocError> {
+        let joining = self.joining;
+        self.joining = false;
+        let Some((first, rest)) = line.split_first() else {
+            return Ok(true);
         };
+        match Line::try_from(*first) {
+            Ok(Line::Comment) => Ok(true),
+            Ok(Line::Message) => {
+                self.joining = true;
+                self.message_line(joining, rest)
+            }
+            Ok(Line::Block) => {
+                self.new_block();
+                Ok(true)
+            }
+            Ok(Line::Words(kind)) => Ok(self.words_line(kind, rest)),
+            Err(UnknownLine) => Ok(false),
+        }
     }
-    m.bytes[to] = (b.value % 256) as u8;
-    m.length = to + 1;
-    Longer {
-        good: now.good & b.ok,
-        message: m,
-    }
-}
 
-fn with_bytes(m: Message, line: &[u8]) -> Longer {
-    let mut now = Longer {
-        good: true,
-        message: m,
-    };
-    let mut k: usize = 0;
-    while k < 64 {
-        let next = with_byte(now, line, 2 + 2 * k);
-        now = next;
-        k += 1;
+    // More bytes of the message, or the first ones of a new message: whether they are bytes and have room. What is no byte counts as 0.
+    fn message_line(&mut self, joining: bool, rest: &[u8]) -> Result<bool, AllocError> {
+        if !joining {
+            self.message.clear();
+            self.begun = 0;
+            self.padded = 0;
+            self.tally.messages = self.tally.messages.saturating_add(1);
+        }
+        let mut agrees = true;
+        for pair in rest.get(1..).unwrap_or(b"").chunks(2).take(LINE_BYTES) {
+            if self.message.len() == MESSAGE_BYTES {
+                return Ok(false);
+            }
+            let byte = text::byte(pair);
+            agrees &= byte.is_some();
+            self.message.push(byte.unwrap_or(0))?;
+        }
+        Ok(agrees)
     }
-    now
-}
 
-fn message_line(run: Run, line: &[u8]) -> Run {
-    let mut next = run;
-    let mut m = run.message;
-    if !run.joining {
-        m.length = 0;
-        next.begun = 0;
-        next.padded = 0;
-        let mut tally = run.tally;
-        let messages = plus(tally.messages, 1);
-        tally.messages = messages;
-        next.tally = tally;
+    fn new_block(&mut self) {
+        self.begun = self.begun.saturating_add(1);
+        self.expanded = 0;
+        self.primed = 0;
+        self.rows = 0;
     }
-    let longer = with_bytes(m, line);
-    let whole = longer.message;
-    next.message = whole;
-    next.bad = !longer.good;
-    next.joining = true;
-    next
-}
 
-// The tally with a line of words counted.
-fn tallied(tally: Tally, kind: u8, words: usize) -> Tally {
-    let mut t = tally;
-    match kind {
-        b'B' => {
-            let n = plus(t.padded, words);
-            t.padded = n;
+    // Up to eight words of a line, each beside the library's.
+    fn words_line(&mut self, kind: Kind, rest: &[u8]) -> bool {
+        let mut agrees = rest.len() <= LINE_WORDS * WORD_ROOM;
+        for (i, part) in (0..LINE_WORDS).zip(rest.chunks(WORD_ROOM)) {
+            let own = self.wanted(kind, i);
+            agrees &= own.is_some() && part.get(1..).and_then(text::word) == own;
         }
-        b'W' => {
-            let n = plus(t.words, words);
-            t.words = n;
-        }
-        b'P' => {
-            let n = plus(t.primed, words);
-            t.primed = n;
-        }
-        b'R' => {
-            let n = plus(t.rows, 1);
-            t.rows = n;
-        }
-        b'V' => {
-            let n = plus(t.chained, 1);
-            t.chained = n;
-        }
-        _ => {
-            let n = plus(t.digests, 1);
-            t.digests = n;
+        self.count(kind, rest.len().div_ceil(WORD_ROOM).min(LINE_WORDS));
+        agrees
+    }
+
+    // The block that was begun last.
+    fn block(&self) -> Option<Block> {
+        Block::of(&self.message, self.begun.checked_sub(1)?)
+    }
+
+    // What the library has for word i of a line of this kind, counted as the run stands.
+    fn wanted(&self, kind: Kind, i: usize) -> Option<u32> {
+        match kind {
+            Kind::Padded => {
+                let i = self.padded.saturating_add(i);
+                Block::of(&self.message, i / 16)?.expanded(i % 16)
+            }
+            Kind::Expanded => self.block()?.expanded(self.expanded.saturating_add(i)),
+            Kind::Primed => self.block()?.primed(self.primed.saturating_add(i)),
+            Kind::Row => self.block()?.register(self.rows, i),
+            Kind::Chained => self.block()?.next_value(i),
+            Kind::Digest => trace::digest(&self.message, i),
         }
     }
-    t
-}
 
-// The run behind a line of words.
-fn counted(run: Run, kind: u8, seen: Seen) -> Run {
-    let mut next = run;
-    next.bad = !seen.good;
-    let n = seen.words;
-    let tally = tallied(run.tally, kind, n);
-    next.tally = tally;
-    match kind {
-        b'B' => {
-            let at = further(run.padded, n);
-            next.padded = at;
-        }
-        b'W' => {
-            let at = further(run.w, n);
-            next.w = at;
-        }
-        b'P' => {
-            let at = further(run.w1, n);
-            next.w1 = at;
-        }
-        b'R' => {
-            let at = further(run.rows, 1);
-            next.rows = at;
-        }
-        _ => {}
-    }
-    next
-}
-
-fn new_block(run: Run) -> Run {
-    let mut next = run;
-    next.begun = further(run.begun, 1);
-    next.w = 0;
-    next.w1 = 0;
-    next.rows = 0;
-    next
-}
-
-// One line of a data file; `bad` is true afterwards where it differs.
-pub fn line(run: Run, line: &[u8]) -> Run {
-    let mut now = run;
-    now.bad = false;
-    let kind = text::byte(line, 0);
-    if kind == b'M' {
-        return message_line(now, line);
-    }
-    now.joining = false;
-    match kind {
-        0 | b'#' => now,
-        b'K' => new_block(now),
-        b'B' | b'W' | b'P' | b'R' | b'V' | b'D' => counted(now, kind, words_line(now, kind, line)),
-        _ => {
-            now.bad = true;
-            now
+    // Counts a line of so many words.
+    fn count(&mut self, kind: Kind, words: usize) {
+        let tally = &mut self.tally;
+        match kind {
+            Kind::Padded => {
+                tally.padded = tally.padded.saturating_add(words as u64);
+                self.padded = self.padded.saturating_add(words);
+            }
+            Kind::Expanded => {
+                tally.words = tally.words.saturating_add(words as u64);
+                self.expanded = self.expanded.saturating_add(words);
+            }
+            Kind::Primed => {
+                tally.primed = tally.primed.saturating_add(words as u64);
+                self.primed = self.primed.saturating_add(words);
+            }
+            Kind::Row => {
+                tally.rows = tally.rows.saturating_add(1);
+                self.rows = self.rows.saturating_add(1);
+            }
+            Kind::Chained => tally.chained = tally.chained.saturating_add(1),
+            Kind::Digest => tally.digests = tally.digests.saturating_add(1),
         }
     }
 }

@@ -1,188 +1,73 @@
 // What the standard's steps give for a message, through the proved library: padded blocks, expansion, rounds, chaining values, digest.
+// A word that there is none of is None.
 use hash::Hash;
 use standard::Words;
 
-// A message of a data file: its bytes, and how many there are.
-#[derive(Clone, Copy)]
-pub struct Message {
-    pub bytes: [u8; 256],
-    pub length: usize,
-}
-
-// A word, where there is one.
-#[derive(Clone, Copy)]
-pub struct Wanted {
-    pub there: bool,
-    pub word: u32,
-}
-
-// A block of a padded message, where there is one.
-#[derive(Clone, Copy)]
+// Block n of a padded message, and the chaining value before it, V(n).
+#[derive(Drop)]
 pub struct Block {
-    pub there: bool,
-    pub bytes: [u8; 64],
+    bytes: [u8; 64],
+    before: Words,
 }
 
-fn none() -> Wanted {
-    Wanted {
-        there: false,
-        word: 0,
-    }
-}
-
-fn some(word: u32) -> Wanted {
-    Wanted { there: true, word }
-}
-
-// The first n bytes, or none where there are not so many.
-fn front(bytes: &[u8], n: usize) -> &[u8] {
-    if n <= bytes.len() {
-        &bytes[..n]
-    } else {
-        &bytes[..0]
-    }
-}
-
-// The part's 64 bytes as an array, for the functions that take a block.
-fn as_array(part: &[u8]) -> Block {
-    let mut bytes = [0u8; 64];
-    if part.len() != 64 {
-        return Block {
-            there: false,
-            bytes,
-        };
-    }
-    let mut i = 0;
-    while i < 64 {
-        bytes[i] = part[i];
-        i += 1;
-    }
-    Block { there: true, bytes }
-}
-
-// Block i of the padded message, by the padding writer and the block view.
-pub fn block_of(m: Message, i: usize) -> Block {
-    let bytes = m.bytes;
-    let message = front(&bytes, m.length);
+// The bytes of block i of the padded message, by the padding writer and the block view.
+fn block_bytes(message: &[u8], i: usize) -> Option<[u8; 64]> {
     let mut tail = [0u8; 128];
-    padding::write(message, &mut tail);
-    as_array(padded::view_part(message, &tail, i))
-}
-
-// V(n): the chaining value before block n.
-pub fn chained(m: Message, n: usize) -> Words {
-    let mut v = Hash::START;
-    let mut i = 0;
-    while i < n {
-        let b = block_of(m, i);
-        let block = b.bytes;
-        let next = folding::fold_block(v, &block);
-        v = next;
-        i += 1;
-    }
-    v
-}
-
-// The registers after the first n rounds, n up to 64: round by round, as the standard's page has them.
-fn row(v: Words, w: &[u32], n: usize) -> Words {
-    let mut r = v;
-    let mut j: usize = 0;
-    while j < n {
-        if 64 <= j {
-            return r;
-        }
-        if w.len() <= j + 4 {
-            return r;
-        }
-        let next = standard::round(j as u32, r, w[j], w[j] ^ w[j + 4]);
-        r = next;
-        j += 1;
-    }
-    r
+    padding::write(message, &mut tail).ok()?;
+    padded::view_part(message, &tail, i).as_array().copied()
 }
 
 // Word i of eight.
-fn of_eight(v: Words, i: usize) -> Wanted {
-    match i {
-        0 => some(v.a),
-        1 => some(v.b),
-        2 => some(v.c),
-        3 => some(v.d),
-        4 => some(v.e),
-        5 => some(v.f),
-        6 => some(v.g),
-        7 => some(v.h),
-        _ => none(),
-    }
+fn word_of(v: Words, i: usize) -> Option<u32> {
+    [v.a, v.b, v.c, v.d, v.e, v.f, v.g, v.h].get(i).copied()
 }
 
-// Wi of block n.
-pub fn w(m: Message, n: usize, i: usize) -> Wanted {
-    let b = block_of(m, n);
-    if !b.there {
-        return none();
+impl Block {
+    pub fn of(message: &[u8], n: usize) -> Option<Block> {
+        let bytes = block_bytes(message, n)?;
+        let mut before = Hash::START;
+        for i in 0..n {
+            before = folding::fold_block(before, &block_bytes(message, i)?);
+        }
+        Some(Block { bytes, before })
     }
-    if 68 <= i {
-        return none();
-    }
-    let block = b.bytes;
-    let words = folding::expanded(&block);
-    some(words[i])
-}
 
-// W'i of block n.
-pub fn w1(m: Message, n: usize, i: usize) -> Wanted {
-    let b = block_of(m, n);
-    if !b.there {
-        return none();
+    // Wi.
+    pub fn expanded(&self, i: usize) -> Option<u32> {
+        folding::expanded(&self.bytes).get(i).copied()
     }
-    if 64 <= i {
-        return none();
-    }
-    let block = b.bytes;
-    let words = folding::expanded(&block);
-    some(words[i] ^ words[i + 4])
-}
 
-// Word i of the padded message: the first sixteen words of each block are its own.
-pub fn padded(m: Message, i: usize) -> Wanted {
-    w(m, i / 16, i % 16)
-}
+    // W'i.
+    pub fn primed(&self, i: usize) -> Option<u32> {
+        let w = folding::expanded(&self.bytes);
+        w.iter().zip(&w[4..]).map(|(w, w4)| w ^ w4).nth(i)
+    }
 
-// Register i of block n after the first `rounds` rounds; row 0 is the state before round 0.
-pub fn register(m: Message, n: usize, rounds: usize, i: usize) -> Wanted {
-    let b = block_of(m, n);
-    if !b.there {
-        return none();
+    // Register i after the first `rounds` rounds, round by round, as the standard's page has them; row 0 is the state before round 0.
+    pub fn register(&self, rounds: usize, i: usize) -> Option<u32> {
+        if 64 < rounds {
+            return None;
+        }
+        let w = folding::expanded(&self.bytes);
+        let row = (0..64u32).zip(w.iter().zip(&w[4..])).take(rounds).fold(
+            self.before,
+            |r, (j, (w, w4))| standard::round(j, r, *w, w ^ w4),
+        );
+        word_of(row, i)
     }
-    if 64 < rounds {
-        return none();
-    }
-    let block = b.bytes;
-    let words = folding::expanded(&block);
-    let v = chained(m, n);
-    of_eight(row(v, &words, rounds), i)
-}
 
-// Word i of V(n + 1).
-pub fn next_value(m: Message, n: usize, i: usize) -> Wanted {
-    let b = block_of(m, n);
-    if !b.there {
-        return none();
+    // Word i of V(n + 1).
+    pub fn next_value(&self, i: usize) -> Option<u32> {
+        word_of(folding::fold_block(self.before, &self.bytes), i)
     }
-    let block = b.bytes;
-    let v = chained(m, n);
-    of_eight(folding::fold_block(v, &block), i)
 }
 
 // Word i of the message's digest.
-pub fn digest(m: Message, i: usize) -> Wanted {
-    if 8 <= i {
-        return none();
-    }
-    let bytes = m.bytes;
-    let d = hash::digest_of(front(&bytes, m.length));
-    let out = d.bytes;
-    let at = i * 4;
-    some(word::word_of(out[at], out[at + 1], out[at + 2], out[at + 3]))
+pub fn digest(message: &[u8], i: usize) -> Option<u32> {
+    let bytes = hash::digest_of(message).ok()?;
+    bytes
+        .chunks_exact(4)
+        .nth(i)?
+        .as_array()
+        .map(|word| u32::from_be_bytes(*word))
 }

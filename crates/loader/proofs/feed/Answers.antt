@@ -11,8 +11,8 @@ loop-piece-init g c = fed_none _ _
 pub returns-then-n-eq0 : goal.returns-then-n-eq0
 returns-then-n-eq0 g c = fed_so_far _ _ c.loop-piece.now c.loop-piece.invariant
 
-pub returns-then-answer-ne-ACCEPTED : goal.returns-then-answer-ne-ACCEPTED
-returns-then-answer-ne-ACCEPTED g c = fed_so_far _ _ c.loop-piece.now c.loop-piece.invariant
+pub returns-then-step-ne-ACCEPTED : goal.returns-then-step-ne-ACCEPTED
+returns-then-step-ne-ACCEPTED g c = fed_so_far _ _ c.loop-piece.now c.loop-piece.invariant
 
 pub returns-then-n-lt-PIECE : goal.returns-then-n-lt-PIECE
 returns-then-n-lt-PIECE g c =

@@ -17,7 +17,7 @@ returns c =
     c.empty.ensures
     c.with_number.ensures
     c.with-noted.ensures
-    c.with_word.ensures
+    (rw c.word.ensures at c.with.ensures)
     c.with-worded.ensures
     c.with_number-2.ensures
-    c.with.ensures
+    c.with-2.ensures

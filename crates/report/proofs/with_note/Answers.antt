@@ -1,9 +1,8 @@
 -- `with_note` puts a listed note's line behind a text. Assumes nothing.
 use mathlib.Core.Path.{sym, ap, ◌∙◌}
 use borrow.Author.Rules.{rules}
-use lib.Seq.{length-take-le}
 use Rattle.texts.specs.Texts.{with_part, said}
-use Rattle.texts.proofs.Parts.{part_none, said_bytes, text_within}
+use Rattle.texts.proofs.Parts.{part_none, said_bytes}
 use Rattle.report.specs.Report.{note_line}
 use Rattle.report.proofs.Lines.{listed, not_listed}
 use Rattle.report.proofs.with_note.Goals as goal
@@ -12,12 +11,6 @@ pub returns-then-a-ne-ACCEPTED : goal.returns-then-a-ne-ACCEPTED
 returns-then-a-ne-ACCEPTED c =
     let args = c.args in
     sym (ap (with_part args.text) (not_listed args.note args.a (search rules)) ∙ part_none args.text)
-
-pub slice_bounds-bytes-end : goal.slice_bounds-bytes-end
-slice_bounds-bytes-end c = let made = c.note_line-line in text_within made.result _ made.ensures
-
-pub slice_bounds-with-end : goal.slice_bounds-with-end
-slice_bounds-with-end c = let made = c.note_line-line in sym (length-take-le _ _ (text_within made.result _ made.ensures))
 
 pub returns : goal.returns
 unfolding said

@@ -5,8 +5,8 @@ use Rattle.paths.proofs.Proved.{path_within}
 use Rattle.loader.proofs.path.open.Goals as goal
 
 pub slice_bounds-bytes-end : goal.slice_bounds-bytes-end
-slice_bounds-bytes-end g c = let made = c.path_of-path in path_within made.result _ _ made.ensures
+slice_bounds-bytes-end g c = let made = c.path_of-length in path_within made.result _ _ made.ensures
 
 pub slice_bounds-from_utf8-end : goal.slice_bounds-from_utf8-end
 slice_bounds-from_utf8-end g c =
-    let made = c.path_of-path in sym (length-take-le _ _ (path_within made.result _ _ made.ensures))
+    let made = c.path_of-length in sym (length-take-le _ _ (path_within made.result _ _ made.ensures))
