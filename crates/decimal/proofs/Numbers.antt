@@ -156,13 +156,12 @@ further value at (byte ∷ s) = go (goes_on value byte) (further (with_figure va
     go true h = omega arith
     go false h = omega arith
 
-pub longest_read : (text number rest : List ℕ) (at value : ℕ) (n : Numeral) → IsNumber number value
-    → drop at text ≡ number ++ rest → numeral_at text at ≡ Some n → at + length number ≤ n.next
+pub longest_read : (text number rest : List ℕ) (at value : ℕ) → IsNumber number value → drop at text ≡ number ++ rest
+    → (n : Numeral) × (numeral_at text at ≡ Some n) × (at + length number ≤ n.next)
 unfolding IsNumber numeral_at
-longest_read text number rest at value n is e h =
-    let read : going_on value (at + length number) rest ≡ n =
-    same_Some _ _ (sym (ap (first_numeral at) e ∙ through at number value rest is.0 is.1) ∙ h) in
-    rw read at (further value (at + length number) rest)
+longest_read text number rest at value is e =
+    let place : ℕ = at + length number in
+    (going_on value place rest, ap (first_numeral at) e ∙ through at number value rest is.0 is.1, further value place rest)
 
 -- a number has one spelling
 pub one_decimal : (text other : List ℕ) (value same : ℕ) → Decimal text value → Decimal other same → value ≡ same → text ≡ other

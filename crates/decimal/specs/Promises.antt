@@ -34,8 +34,8 @@ pub record Promises : Type 0 where
   pub found_stands : (text : List ℕ) (at : ℕ) (n : Numeral) → numeral_at text at ≡ Some n → Stands text at n.next n.value
   -- the longest one that does,
   pub longest :
-      (text number rest : List ℕ) (at value : ℕ) (n : Numeral) → IsNumber number value → drop at text ≡ number ++ rest
-      → numeral_at text at ≡ Some n → at + length number ≤ n.next
+      (text number rest : List ℕ) (at value : ℕ) → IsNumber number value → drop at text ≡ number ++ rest
+      → (n : Numeral) × (numeral_at text at ≡ Some n) × (at + length number ≤ n.next)
   -- and where none is found, none begins there
   pub none_stands :
       (text : List ℕ) (at : ℕ) → numeral_at text at ≡ None

@@ -12,6 +12,7 @@ proved =
       counts = λ number size. (refl, refl);
       one_number = one_number;
       not_accepted = not_accepted;
+      number_told = λ r. (refl, refl);
       numbered = numbered;
       written_as = λ size r. (refl, refl);
       told = told;

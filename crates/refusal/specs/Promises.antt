@@ -32,6 +32,8 @@ pub record Promises : Type 0 where
   -- each refusal has a number of its own, and none has that of an accepted call
   pub one_number : (r s : Refusal) → number_by r ≡ number_by s → r ≡ s
   pub not_accepted : (r : Refusal) → number_by r ≡ accepted → ⊥
+  -- the number that a call answers: 0 where it is accepted, else the refusal's
+  pub number_told : (r : Refusal) → (number_of {T = ⊤} (Ok tt) ≡ 0) × (number_of {T = ⊤} (Err r) ≡ number_by r)
   -- so a number tells what a call answered that answers nothing else
   pub numbered : (x y : Result ⊤ Refusal) → number_of x ≡ number_of y → x ≡ y
   -- and a C host is told all that a call answered which writes
