@@ -9,7 +9,7 @@ use Rattle.keyed.specs.Keyed.{covered as covered_of, keyed_verdict}
 use Rattle.keyed_promises.specs.Answers.{MacRow, Answered}
 use Rattle.keyed_promises.proofs.Proved.{proved as keyed}
 use Rattle.coincide.proofs.Coding.{keyed_whole}
-use Rattle.coincide.specs.Coincide.{Coincide, PartsCoincide, Means}
+use Rattle.coincide.specs.Coincide.{Coincide, PartsCoincide, Means, Answers}
 use Rattle.keyed.specs.contracts
 use Rattle.keyed.proofs
 
@@ -22,15 +22,17 @@ mac_number_rows κs a r e = keyed.mac_numbers a.0.now a.1.0.now (number_of r)
 pub covered : PartsCoincide contracts.covered.ended (λ κs r. r) proofs.covered.Reads.Post
 covered κs a x y e f p q = (p.0 ∙ sym q.0, p.1 ∙ sym q.1)
 
-pub covered_means : Means contracts.covered.ended proofs.covered.Reads.Post (λ κs a r e. (r.now ≡ covered_of a.0.now (number_of a.1.0)) × (r.ref_ptr ≡ a.0.ref_ptr))
+pub covered_means : Means contracts.covered.ended proofs.covered.Reads.Post (λ κs a r e. (r.now ≡ covered_of a.0.now a.1.0) × (r.ref_ptr ≡ a.0.ref_ptr))
 covered_means κs a r e = Iff.rfl
 
-pub verdict_of : Coincide contracts.verdict_of.ended proofs.verdict_of.Reads.Post
-verdict_of κs a x y e f p q = verdict_once x y (p ∙ sym q)
-
-pub verdict_of_means : Means contracts.verdict_of.ended proofs.verdict_of.Reads.Post
-    (λ κs a r e. verdict r ≡ keyed_verdict (number_of a.0) (verdict a.1.0))
+pub verdict_of_means : Answers contracts.verdict_of.ended proofs.verdict_of.Reads.Post (λ κs a. keyed_verdict a.0 a.1.0)
 verdict_of_means κs a r e = Iff.rfl
+
+pub judged : Coincide contracts.judged.ended proofs.judged.Reads.Post
+judged κs a x y e f p q = verdict_once x y (p ∙ sym q)
+
+pub judged_means : Means contracts.judged.ended proofs.judged.Reads.Post (λ κs a r e. verdict r ≡ keyed_verdict (number_of a.0) (verdict a.1.0))
+judged_means κs a r e = Iff.rfl
 
 pub read : Coincide contracts.read.ended proofs.read.Reads.Post
 read κs a x y e f p q = p ∙ sym q

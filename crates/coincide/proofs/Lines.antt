@@ -1,13 +1,21 @@
 -- `lines`: any two results that meet a contract coincide; and a contract is what is promised, of its own arguments. Assumes nothing.
 use mathlib.Core.Path.{◌≡◌, sym, ◌∙◌}
 use mathlib.Core.Logic.Iff
-use Rattle.lines.specs.Reading.{number_by, stop_of, mark_at as mark_of, word_at as word_of}
+use Rattle.lines.specs.Reading.{number_by, stop_of, is_good, mark_at as mark_of, word_at as word_of}
 use Rattle.lines.specs.Fields.{field_of, field_at as field_read, digest_of, digest_at as digest_read}
 use Rattle.lines.specs.Lines.{line_of, note_line as note_read, header_line as header_read}
 use Rattle.lines.proofs.Once.{stop_once, field_once, digest_once, line_once}
-use Rattle.coincide.specs.Coincide.{Coincide, Means}
+use Rattle.coincide.specs.Coincide.{Coincide, Means, Answers}
 use Rattle.lines.specs.contracts
 use Rattle.lines.proofs
+
+pub is_good_means : Answers contracts.is_good.ended proofs.is_good.Reads.Post (λ κs a. is_good a.0)
+is_good_means κs a r e = Iff.rfl
+
+-- `Field::from`
+pub FieldFromResultReadU32Fault-from_means : Answers contracts.FieldFromResultReadU32Fault.from.ended
+    proofs.FieldFromResultReadU32Fault.from.Reads.Post (λ κs a. field_of a.0)
+FieldFromResultReadU32Fault-from_means κs a r e = Iff.rfl
 
 pub mark_at : Coincide contracts.mark_at.ended proofs.mark_at.Reads.Post
 mark_at κs a x y e f p q = stop_once x y (p ∙ sym q)

@@ -1,8 +1,7 @@
 -- `refusal`: any two results that meet a contract coincide; and a contract is what is promised, of its own arguments. Assumes nothing.
 use mathlib.Core.Logic.Iff
 use mathlib.Core.Path.{◌≡◌, refl}
-use Prim.Native.Nat.{ℕ}
-use mathlib.Core.List.{List, [], ◌∷◌}
+use mathlib.Core.List.{[], ◌∷◌}
 use Rattle.refusal.specs.Table.{number_by, number_of, written_of}
 use Rattle.refusal.specs.declared.Refusal.TheVariants
 use Rattle.coincide.specs.Coincide.{Answers}

@@ -7,7 +7,10 @@ use Rattle.texts.specs.declared.Text.{Text}
 use Rattle.rules.specs.declared.Record.{Record}
 use Rattle.lines.specs.declared.Fault.{Fault}
 use Rattle.lines.specs.declared.Read.{Read}
+use Rattle.lines.specs.declared.Stop.{Stop}
+use Rattle.lines.specs.declared.Field.{Field}
 use Rattle.lines.specs.declared.Entry.{Entry}
+use Rattle.lines.specs.declared.NoteLine.{NoteLine}
 use Rattle.standard.specs.declared.Words.{Words}
 use Rattle.padded.specs.declared.Place.{Place}
 use Rattle.hash.specs.declared.Hash.{Hash}
@@ -50,8 +53,17 @@ Fault-holds x = refl
 pub Read-holds : {T : Type 0} (x : Read T) → x ≡ record { value = x.value; next = x.next }
 Read-holds x = refl
 
+pub Stop-holds : (x : Stop) → x ≡ record { wanted = x.wanted; at = x.at }
+Stop-holds x = refl
+
+pub Field-holds : (x : Field) → x ≡ record { stop = x.stop; value = x.value }
+Field-holds x = refl
+
 pub Entry-holds : (x : Entry) → x ≡ record { note = x.note; sample = x.sample }
 Entry-holds x = refl
+
+pub NoteLine-holds : (x : NoteLine) → x ≡ record { stop = x.stop; entry = x.entry }
+NoteLine-holds x = refl
 
 pub Words-holds : (x : Words) → x ≡ record { a = x.a; b = x.b; c = x.c; d = x.d; e = x.e; f = x.f; g = x.g; h = x.h }
 Words-holds x = refl

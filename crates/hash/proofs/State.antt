@@ -137,7 +137,7 @@ abbrev pub words_equal_each : (v w : Words) → Bool
 words_equal_each v w =
     eqb v.a w.a && (eqb v.b w.b && (eqb v.c w.c && (eqb v.d w.d && (eqb v.e w.e && (eqb v.f w.f && (eqb v.g w.g && eqb v.h w.h))))))
 
-words_same : (v w : Words) → words_equal_each v w ≡ same (in_list v) (in_list w)
+pub words_same : (v w : Words) → words_equal_each v w ≡ same (in_list v) (in_list w)
 unfolding same in_list
 words_same v w = simp and-true
 

@@ -8,8 +8,8 @@ ghost use Rattle.lines.specs.Fields.{digest_of};
 ghost use Rattle.sheet.specs.Judging.{verdict_of};
 ghost use Rattle.keyed.specs.Keyed.{begins_line, mac_line_at, whole, code_number, mac_number, covered, keyed_verdict, keyed_of};
 
-use lines::{Fault, LF, Read, TAB, Wanted};
-use refusal::Refusal;
+use lines::{Fault, Field, LF, Read, TAB, Wanted};
+use refusal::{ACCEPTED, Refusal};
 use sheet::{Bad, Sheet, Verdict};
 use units::LONGEST;
 
@@ -72,23 +72,35 @@ pub fn mac_number(key: &[u8], text: &[u8]) -> Result<(), Refusal>
     code_number(key, &text[..at], &line.value)
 }
 
-// The bytes before the MAC line, where that is not refused (no text that was accepted is shorter than that line); else none: they are
+// The bytes before the MAC line, where the number is no refusal (no text that was accepted is shorter than that line); else none: they are
 // never read as a sheet.
 #[tactic(auto, using(crate::proofs::Judging::cover_steps))]
-pub fn covered(text: &[u8], mac: Result<(), Refusal>) -> &[u8]
-    ensures result_value { result.now ≡ covered text.now (number_of mac) }
+pub fn covered(text: &[u8], number: u8) -> &[u8]
+    ensures result_value { result.now ≡ covered text.now number }
     ensures ref_ptr_value { result.ref_ptr ≡ text.entry.ref_ptr }
 {
-    if mac.is_ok() && MAC_LINE <= text.len() {
+    if number == ACCEPTED && MAC_LINE <= text.len() {
         &text[..text.len() - MAC_LINE]
     } else {
         &text[..0]
     }
 }
 
+// What a C host is told of the keyed sheet, from the MAC line's number and what it would be told of the sheet before it.
+#[tactic(auto, unfolding(crate::specs::Keyed::keyed_verdict, sheet::specs::Judging::verdict_at))]
+pub fn verdict_of(number: u8, sheet: Verdict) -> Verdict
+    ensures { result ≡ keyed_verdict number sheet }
+{
+    if number == ACCEPTED {
+        sheet
+    } else {
+        Verdict { number, line: 0 }
+    }
+}
+
 // The keyed sheet, judged: the MAC line, which is refused on line 0, and then the sheet before it.
 #[tactic(auto, using(crate::proofs::Judging::verdict_steps))]
-pub fn verdict_of(mac: Result<(), Refusal>, sheet: Result<(), Bad>) -> Result<(), Bad>
+pub fn judged(mac: Result<(), Refusal>, sheet: Result<(), Bad>) -> Result<(), Bad>
     ensures { verdict_of result ≡ keyed_verdict (number_of mac) (verdict_of sheet) }
 {
     match mac {
@@ -102,13 +114,13 @@ pub fn verdict_of(mac: Result<(), Refusal>, sheet: Result<(), Bad>) -> Result<()
 pub fn read(key: &[u8], text: &[u8]) -> Sheet
     ensures { result ≡ keyed_of key.now text.now }
 {
-    let mac = mac_number(key, text);
-    let rest = covered(text, mac);
-    let judged = sheet::judged(rest, 0);
-    let from = sheet::start_of(sheet::header_at(rest, 0), judged);
+    let number = refusal::number_of(mac_number(key, text));
+    let rest = covered(text, number);
+    let verdict = Verdict::from(sheet::judged(rest, 0));
+    let from = sheet::start_of(Field::from(sheet::header_at(rest, 0)), verdict);
     let session = sheet::filled(rest, from.at, from.notes, from.listed);
     Sheet {
-        verdict: Verdict::from(verdict_of(mac, judged)),
+        verdict: verdict_of(number, verdict),
         session,
     }
 }

@@ -14,6 +14,6 @@ pub fn read_into(s: &mut Session, key: &[u8], text: &[u8]) -> Result<(), Bad>
         × (s.new ≡ (keyed_of key.now text.now).session) }
 {
     let mac = keyed::mac_number(key, text);
-    let judged = session_in_place::read_into(s, keyed::covered(text, mac));
-    keyed::verdict_of(mac, judged)
+    let judged = session_in_place::read_into(s, keyed::covered(text, refusal::number_of(mac)));
+    keyed::judged(mac, judged)
 }

@@ -5,7 +5,8 @@ use mathlib.Core.List.{List, [], ◌∷◌, ◌++◌}
 use mathlib.Core.Bool.{true}
 use native.Mathlib.Omega.{arith}
 use lib.ListN.{length, drop, length-append}
-use Rattle.lines.specs.Reading.{Stop, word, separator, tab, lf, good_stop, is_good, mark_at, word_at, mark_after, word_after}
+use Rattle.lines.specs.declared.Stop.{Stop}
+use Rattle.lines.specs.Reading.{word, separator, tab, lf, good_stop, is_good, mark_at, word_at, mark_after, word_after}
 use Rattle.lines.specs.Fields.{DigestField, good_digest, digest_at, digest_after}
 use Rattle.sheet_promises.specs.Grammar.{IsDigest}
 use Rattle.sheet_promises.proofs.Standing.{Part, part_of, joins_at, front_part, back_part}

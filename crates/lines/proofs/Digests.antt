@@ -18,7 +18,8 @@ use Rattle.hex_digits.specs.Digits.{digits}
 use Rattle.hex_digits.proofs.Digits.{rule, no_byte}
 use Rattle.lines.specs.declared.Fault.{Fault}
 use Rattle.lines.specs.declared.Wanted.TheVariants
-use Rattle.lines.specs.Reading.{Stop, digit, fault, fault_of, is_good}
+use Rattle.lines.specs.declared.Stop.{Stop}
+use Rattle.lines.specs.Reading.{digit, fault, fault_of, is_good}
 use Rattle.lines.specs.Fields.{good_digest, digest_fault, digit_at, is_digit_at, digit_read, pair_at, digest_from, digest_at, digest_after}
 
 -- the digit at a place by the table, and past the end

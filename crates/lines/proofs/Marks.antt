@@ -17,7 +17,8 @@ use lib.Seq.{drop-cons}
 use Rattle.lines.specs.declared.Fault.{Fault}
 use Rattle.lines.specs.declared.Wanted.{Wanted}
 use Rattle.lines.specs.declared.Wanted.TheVariants
-use Rattle.lines.specs.Reading.{Stop, nothing, number_by, fault_of, good_stop, fault, is_good, has_at, mark_at, word_at, mark_after, word_after}
+use Rattle.lines.specs.declared.Stop.{Stop}
+use Rattle.lines.specs.Reading.{nothing, number_by, fault_of, good_stop, fault, is_good, has_at, mark_at, word_at, mark_after, word_after}
 use Rattle.truth.proofs.Tests.{first, second, either}
 
 -- a byte that is there stands before the end, and the next place is a place

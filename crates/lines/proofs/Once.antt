@@ -10,9 +10,12 @@ use Rattle.lines.specs.declared.Fault.{Fault}
 use Rattle.lines.specs.declared.Read.{Read}
 use Rattle.lines.specs.declared.Wanted.{Wanted}
 use Rattle.lines.specs.declared.Wanted.TheVariants
-use Rattle.lines.specs.Reading.{Stop, number_by, fault_of, stop_of}
-use Rattle.lines.specs.Fields.{Field, DigestField, field_of, digest_of}
-use Rattle.lines.specs.Lines.{NoteLine, line_of}
+use Rattle.lines.specs.declared.Stop.{Stop}
+use Rattle.lines.specs.Reading.{number_by, fault_of, stop_of}
+use Rattle.lines.specs.declared.Field.{Field}
+use Rattle.lines.specs.Fields.{DigestField, field_of, digest_of}
+use Rattle.lines.specs.declared.NoteLine.{NoteLine}
+use Rattle.lines.specs.Lines.{line_of}
 use Rattle.lines.proofs.Marks.{wanted_not}
 
 -- what is wanted by a number

@@ -8,8 +8,10 @@ use Rattle.decimal.specs.Reading.{numeral_at}
 use Rattle.decimal.specs.declared.Numeral.{Numeral}
 use Rattle.lines.specs.declared.Fault.{Fault}
 use Rattle.lines.specs.declared.Wanted.TheVariants
-use Rattle.lines.specs.Reading.{Stop, number, separator, good_stop, fault, fault_of, is_good, has_at, mark_at}
-use Rattle.lines.specs.Fields.{Field, good_field, field_fault, field_behind, field_at, field_after}
+use Rattle.lines.specs.declared.Stop.{Stop}
+use Rattle.lines.specs.Reading.{number, separator, good_stop, fault, fault_of, is_good, has_at, mark_at}
+use Rattle.lines.specs.declared.Field.{Field}
+use Rattle.lines.specs.Fields.{good_field, field_fault, field_behind, field_at, field_after}
 use Rattle.lines.proofs.Marks.{mark_missing, mark_found, mark_lacks}
 
 -- there is no number, or one, and its ending is there or not

@@ -7,7 +7,8 @@ use native.Mathlib.Nat.{add-zero}
 use native.Mathlib.Omega.{arith}
 use borrow.Author.Tests.{eqb-true, eq-eqb, ne_eqb}
 use lib.ListN.{length, get_or}
-use Rattle.lines.specs.Reading.{Stop, digit, good_stop, fault, is_good, has_at, mark_after, word_at, word_after}
+use Rattle.lines.specs.declared.Stop.{Stop}
+use Rattle.lines.specs.Reading.{digit, good_stop, fault, is_good, has_at, mark_after, word_at, word_after}
 use Rattle.lines.specs.Fields.{good_digest, digest_fault, digit_at, pair_at, field_after, digest_from, digest_at, digest_after}
 use Rattle.lines.specs.Lines.{no_entry}
 use Rattle.rules.specs.Rules.{zero_record}

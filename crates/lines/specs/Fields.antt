@@ -6,13 +6,11 @@ use Rattle.decimal.specs.declared.Numeral.{Numeral}
 use Rattle.lines.specs.declared.Fault.{Fault}
 use Rattle.lines.specs.declared.Read.{Read}
 use Rattle.lines.specs.declared.Wanted.TheVariants
-use Rattle.lines.specs.Reading.{Stop, number, separator, digit, good_stop, fault, is_good, has_at, fault_of}
+use Rattle.lines.specs.declared.Field.{Field}
+use Rattle.lines.specs.declared.Stop.{Stop}
+use Rattle.lines.specs.Reading.{number, separator, digit, good_stop, fault, is_good, has_at, fault_of}
 
--- what a number's or a digest's step answers: where it stopped, and what it read
-pub record Field : Type 0 where
-  pub stop : Stop
-  pub value : ℕ
-
+-- what a digest's step answers, as `Field` a number's: where it stopped, and what it read
 pub record DigestField : Type 0 where
   pub stop : Stop
   pub digest : List ℕ

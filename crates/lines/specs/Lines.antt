@@ -4,13 +4,11 @@ use Rattle.rules.specs.Rules.{zero_record}
 use Rattle.lines.specs.declared.Entry.{Entry}
 use Rattle.lines.specs.declared.Fault.{Fault}
 use Rattle.lines.specs.declared.Read.{Read}
-use Rattle.lines.specs.Reading.{Stop, word, separator, tab, lf, good_stop, is_good, mark_after, word_after, fault_of}
-use Rattle.lines.specs.Fields.{Field, field_after, digest_after}
-
--- what reading a note line answers: where it stopped, and what the line says
-pub record NoteLine : Type 0 where
-  pub stop : Stop
-  pub entry : Entry
+use Rattle.lines.specs.declared.NoteLine.{NoteLine}
+use Rattle.lines.specs.declared.Stop.{Stop}
+use Rattle.lines.specs.Reading.{word, separator, tab, lf, good_stop, is_good, mark_after, word_after, fault_of}
+use Rattle.lines.specs.declared.Field.{Field}
+use Rattle.lines.specs.Fields.{field_after, digest_after}
 
 -- a note line's entry, and the place after the line; or what was wanted, and where
 unfoldable pub no_entry : Entry

@@ -7,8 +7,10 @@ use Rattle.lines.specs.declared.Entry.{Entry}
 use Rattle.lines.specs.declared.Fault.{Fault}
 use Rattle.lines.specs.declared.Read.{Read}
 use Rattle.lines.specs.declared.Wanted.TheVariants
-use Rattle.lines.specs.Reading.{Stop, number_by, stop_of, nothing, word, number, separator, digit, tab, lf, good_stop, is_good, has_at, mark_at, word_at, mark_after, word_after}
-use Rattle.lines.specs.Fields.{DigestField, Field, field_of, digest_of, digit_at, field_at, digest_at, field_after, digest_after}
+use Rattle.lines.specs.declared.Stop.{Stop}
+use Rattle.lines.specs.Reading.{number_by, stop_of, nothing, word, number, separator, digit, tab, lf, good_stop, is_good, has_at, mark_at, word_at, mark_after, word_after}
+use Rattle.lines.specs.declared.Field.{Field}
+use Rattle.lines.specs.Fields.{DigestField, field_of, digest_of, digit_at, field_at, digest_at, field_after, digest_after}
 use Rattle.lines.specs.Lines.{line_of, note_line, header_line, edition1}
 
 -- all was well up to a place

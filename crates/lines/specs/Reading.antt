@@ -5,11 +5,7 @@ use Rattle.std.specs.Prelude.{ℕ, ◌+◌, List, [], ◌∷◌, Bool, cond, ◌
 use Rattle.lines.specs.declared.Fault.{Fault}
 use Rattle.lines.specs.declared.Wanted.{Wanted}
 use Rattle.lines.specs.declared.Wanted.TheVariants
-
--- where a step stopped, and what it wanted there: nothing more, and the next place; or the place of its fault
-pub record Stop : Type 0 where
-  pub wanted : ℕ
-  pub at : ℕ
+use Rattle.lines.specs.declared.Stop.{Stop}
 
 -- what a step can want: nothing more; the word RANK or the edition; a number; a tab or line end; a digest's digit
 abbrev pub nothing : ℕ

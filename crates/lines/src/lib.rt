@@ -3,7 +3,7 @@
 #![tactic(auto)]
 
 ghost use Rattle.std.specs.Prelude.{◌≡◌};
-ghost use Rattle.lines.specs.Reading.{number_by, stop_of, has_at, mark_at, word_at};
+ghost use Rattle.lines.specs.Reading.{number_by, stop_of, is_good, has_at, mark_at, word_at};
 ghost use Rattle.lines.specs.Fields.{field_of, field_at, digit_read, digest_of, digest_at};
 ghost use Rattle.lines.specs.Lines.{line_of, note_line, header_line};
 
@@ -12,10 +12,10 @@ use rules::Record;
 // What a step can want: the word RANK or the edition; a number; a tab or line end; a digest's digit.
 #[derive(Clone, Copy, Debug, PartialEq, Eq)]
 pub enum Wanted {
-    Word,
-    Number,
-    Separator,
-    Digit,
+    Word = 1,
+    Number = 2,
+    Separator = 3,
+    Digit = 4,
 }
 
 // What a step wanted where it found something else, and that place.
@@ -37,6 +37,61 @@ pub struct Read<T> {
 pub struct Entry {
     pub note: u32,
     pub sample: Record,
+}
+
+// The same by numbers, as the definitions have it, and of any number: what a step wanted, nothing more where all was well; and where it
+// stopped.
+#[derive(Clone, Copy)]
+pub struct Stop {
+    pub wanted: u8,
+    pub at: usize,
+}
+
+// All was well up to the place.
+const NOTHING: u8 = 0;
+
+// By numbers, what a number's step answers.
+#[derive(Clone, Copy)]
+pub struct Field {
+    pub stop: Stop,
+    pub value: u32,
+}
+
+// By numbers, what a note line's answers.
+#[derive(Clone, Copy)]
+pub struct NoteLine {
+    pub stop: Stop,
+    pub entry: Entry,
+}
+
+// Whether all was well: what is wanted may be any number.
+pub fn is_good(s: Stop) -> bool
+    ensures { result ≡ is_good s }
+{
+    s.wanted == NOTHING
+}
+
+impl From<Result<Read<u32>, Fault>> for Field {
+    ghost from_gives = { λ answer field. field ≡ field_of answer };
+
+    fn from(answer: Result<Read<u32>, Fault>) -> Field {
+        match answer {
+            Ok(read) => Field {
+                stop: Stop {
+                    wanted: NOTHING,
+                    at: read.next,
+                },
+                value: read.value,
+            },
+            Err(fault) => Field {
+                stop: Stop {
+                    wanted: fault.wanted as u8,
+                    at: fault.at,
+                },
+                value: 0,
+            },
+        }
+    }
 }
 
 pub const TAB: u8 = b'\t';

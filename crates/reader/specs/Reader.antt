@@ -3,8 +3,9 @@ use Rattle.std.specs.Prelude.{ℕ, List, Result, Ok, Err}
 use Rattle.std.specs.Borrow.{Bor}
 use Rattle.lines.specs.declared.Fault.{Fault}
 use Rattle.lines.specs.declared.Read.{Read}
-use Rattle.lines.specs.Fields.{Field}
-use Rattle.lines.specs.Lines.{NoteLine, note_line}
+use Rattle.lines.specs.declared.Field.{Field}
+use Rattle.lines.specs.declared.NoteLine.{NoteLine}
+use Rattle.lines.specs.Lines.{note_line}
 use Rattle.sheet.specs.Judging.{header_at}
 use Rattle.reader.specs.declared.SheetReader.{SheetReader}
 

@@ -1,5 +1,5 @@
 -- Note after note is listed. Assumes nothing.
-use Rattle.lines.specs.Fields.{Field}
+use Rattle.lines.specs.declared.Field.{Field}
 use Prim.Native.Nat.{ℕ, zero, suc, ◌+◌, ◌-◌, ◌%◌, ◌<◌, ◌≤◌}
 use mathlib.Core.Path.{◌≡◌, refl, sym, ap, ◌∙◌}
 use mathlib.Core.Logic.{⊎_elim}

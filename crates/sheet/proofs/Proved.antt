@@ -5,7 +5,8 @@ use borrow.Author.Tests.{eq-eqb, ne_eqb}
 use Rattle.refusal.specs.Table.{accepted}
 use Rattle.hash.specs.State.{fresh}
 use Rattle.slots.specs.Slots.{waiting_slot}
-use Rattle.lines.specs.Reading.{Stop, is_good}
+use Rattle.lines.specs.declared.Stop.{Stop}
+use Rattle.lines.specs.Reading.{is_good}
 use Rattle.sheet.specs.Filling.{listing, start}
 use Rattle.sheet.specs.Promises.{Promises}
 use Rattle.sheet.proofs.Verdicts.{header_ill, header_bad, header_good, entry_note, entry_length, entry_loop, entry_good, line_ill, line_well, header_decides, notes_decide, this_decides, rest_decides, text_follows, nothing_follows}

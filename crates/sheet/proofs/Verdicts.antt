@@ -1,5 +1,6 @@
 -- What is judged of a line, and of the lines in order. Assumes nothing.
-use Rattle.lines.specs.Fields.{Field, field_of}
+use Rattle.lines.specs.declared.Field.{Field}
+use Rattle.lines.specs.Fields.{field_of}
 use Prim.Native.Nat.{ℕ, suc, ◌+◌, ◌-◌, ◌<◌, ◌≤◌}
 use mathlib.Core.Path.{◌≡◌, refl, sym, ap, ◌∙◌}
 use mathlib.Core.Logic.{⊎_elim}
@@ -21,8 +22,9 @@ use Rattle.refusal.specs.Table.{number_by, number_of, accepted, form, count_or_n
 use Rattle.rules.proofs.Rules.{count_rule_is}
 use Rattle.rules.specs.Rules.{count_rule, note_rule, good_length, good_loop}
 use Rattle.lines.specs.Reading.{is_good}
-use Rattle.lines.specs.Lines.{NoteLine, line_of, note_line, header_line, edition1}
-use Rattle.sheet.specs.Judging.{header_at, header_number, entry_number, note_number, header_judged, entry_judged, accepted_read, line_judged, all_good, verdict_at, verdict_of, judged_notes, judged}
+use Rattle.lines.specs.declared.NoteLine.{NoteLine}
+use Rattle.lines.specs.Lines.{line_of, note_line, header_line, edition1}
+use Rattle.sheet.specs.Judging.{header_number, entry_number, note_number, header_judged, entry_judged, accepted_read, line_judged, all_good, verdict_at, verdict_of, judged_notes, judged}
 use Rattle.lines.specs.declared.Entry.{Entry}
 use Rattle.lines.specs.declared.Fault.{Fault}
 use Rattle.lines.specs.declared.Read.{Read}

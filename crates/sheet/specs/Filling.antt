@@ -1,5 +1,5 @@
 -- What a sheet's lines put into a session, step by step: by value and in place.
-use Rattle.lines.specs.Fields.{Field}
+use Rattle.lines.specs.declared.Field.{Field}
 use Rattle.std.specs.Prelude.{ℕ, ◌%◌, List, cond, eqb}
 use Rattle.refusal.specs.Table.{accepted}
 use Rattle.slots.specs.Slots.{waiting_slot}

@@ -6,8 +6,9 @@ use Rattle.slots.specs.Slots.{waiting_slot}
 use Rattle.session.specs.Sessions.{empty_session, put_slot}
 use Rattle.session.specs.declared.Session.{Session}
 use Rattle.lines.specs.Reading.{is_good}
-use Rattle.lines.specs.Fields.{Field}
-use Rattle.lines.specs.Lines.{NoteLine, note_line, header_line, edition1}
+use Rattle.lines.specs.declared.Field.{Field}
+use Rattle.lines.specs.declared.NoteLine.{NoteLine}
+use Rattle.lines.specs.Lines.{note_line, header_line, edition1}
 use Rattle.lines.specs.declared.Entry.{Entry}
 use Rattle.lines.specs.declared.Fault.{Fault}
 use Rattle.lines.specs.declared.Read.{Read}

@@ -1,5 +1,6 @@
 -- What the sheet's steps promise, one by one. What they promise of whole texts is in the crate `sheet_promises`.
-use Rattle.lines.specs.Fields.{Field, field_of}
+use Rattle.lines.specs.declared.Field.{Field}
+use Rattle.lines.specs.Fields.{field_of}
 use Rattle.std.specs.Prelude.{ℕ, suc, ◌+◌, ◌%◌, ◌<◌, ◌≤◌, ◌≡◌, List, [], ◌∷◌, true, false, length, replicate, ⊤, Result, Ok, Err}
 use Rattle.refusal.specs.Table.{number_by, number_of, accepted, form, count_or_note, bad_length, bad_loop}
 use Rattle.rules.specs.Rules.{count_rule, note_rule, good_length, good_loop}
@@ -7,7 +8,8 @@ use Rattle.standard.specs.Standard.{IV}
 use Rattle.slots.specs.Slots.{waiting_slot}
 use Rattle.session.specs.Sessions.{slot_index, put_slot}
 use Rattle.session.specs.declared.Session.{Session}
-use Rattle.lines.specs.Lines.{NoteLine, line_of, note_line, header_line}
+use Rattle.lines.specs.declared.NoteLine.{NoteLine}
+use Rattle.lines.specs.Lines.{line_of, note_line, header_line}
 use Rattle.lines.specs.declared.Entry.{Entry}
 use Rattle.lines.specs.declared.Fault.{Fault}
 use Rattle.lines.specs.declared.Read.{Read}

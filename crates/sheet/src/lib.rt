@@ -3,12 +3,12 @@
 
 ghost use Rattle.std.specs.Prelude.{◌≡◌};
 ghost use Rattle.lines.specs.Fields.{field_of};
-ghost use Rattle.sheet.specs.Judging.{header_at, header_judged, entry_judged, line_judged};
+ghost use Rattle.sheet.specs.Judging.{header_at, header_number, note_number, header_judged, entry_judged, line_judged};
 ghost use Rattle.sheet.specs.Judging.{verdict_of, judged, entries_at, with_notes, sheet_of};
 ghost use Rattle.sheet.specs.Filling.{start, listing, with_listed};
 ghost use Rattle.session.specs.Sessions.{empty_session};
 
-use lines::{Entry, Fault, Read};
+use lines::{Entry, Fault, Field, NoteLine, Read, is_good};
 use refusal::{ACCEPTED, Refusal};
 use session::Session;
 use slots::Slot;
@@ -80,9 +80,24 @@ pub fn header_at(text: &[u8], at: usize) -> Result<Read<u32>, Fault>
     lines::header_line(text, at, EDITION)
 }
 
+// Line 1's refusal number, of what its step answers by numbers: form, then count.
+#[tactic(auto, unfolding(crate::specs::Judging::header_number))]
+pub fn header_number(h: Field) -> u8
+    ensures { result ≡ header_number h }
+{
+    if !is_good(h.stop) {
+        return Refusal::Form.number();
+    }
+    if rules::count_rule(h.value) {
+        ACCEPTED
+    } else {
+        Refusal::CountOrNote.number()
+    }
+}
+
 // Line 1, or why it is refused: form, then count.
 #[tactic(auto, unfolding(crate::specs::Judging::header_judged))]
-pub fn header_number(header: Result<Read<u32>, Fault>) -> Result<Read<u32>, Refusal>
+pub fn header_judged(header: Result<Read<u32>, Fault>) -> Result<Read<u32>, Refusal>
     ensures { result ≡ header_judged header }
 {
     let Ok(read) = header else {
@@ -112,9 +127,21 @@ pub fn entry_number(last: u32, e: Entry) -> Result<(), Refusal>
     Ok(())
 }
 
+// A note line's refusal number, of what its step answers by numbers: form first.
+#[tactic(auto, using(crate::proofs::Verdicts::entry_numbered), unfolding(crate::specs::Judging::note_number))]
+pub fn note_number(last: u32, l: NoteLine) -> u8
+    ensures { result ≡ note_number last l }
+{
+    if is_good(l.stop) {
+        refusal::number_of(entry_number(last, l.entry))
+    } else {
+        Refusal::Form.number()
+    }
+}
+
 // A note line, or why it is refused: form first.
 #[tactic(auto, unfolding(crate::specs::Judging::line_judged))]
-pub fn note_number(last: u32, line: Result<Read<Entry>, Fault>) -> Result<Read<Entry>, Refusal>
+pub fn line_judged(last: u32, line: Result<Read<Entry>, Fault>) -> Result<Read<Entry>, Refusal>
     ensures { result ≡ line_judged last line }
 {
     let Ok(read) = line else {
@@ -129,12 +156,12 @@ pub fn note_number(last: u32, line: Result<Read<Entry>, Fault>) -> Result<Read<E
 pub fn judged(text: &[u8], at: usize) -> Result<(), Bad>
     ensures { verdict_of result ≡ judged text.now at }
 {
-    let header = header_number(header_at(text, at)).map_err(|refusal| Bad { refusal, line: 1 })?;
+    let header = header_judged(header_at(text, at)).map_err(|refusal| Bad { refusal, line: 1 })?;
     let mut next = header.next;
     let mut last = 0;
     for line in 2..header.value + 2 {
         let read = lines::note_line(text, next);
-        let note = note_number(last, read).map_err(|refusal| Bad { refusal, line })?;
+        let note = line_judged(last, read).map_err(|refusal| Bad { refusal, line })?;
         last = note.value.note;
         next = note.next;
     }
@@ -148,17 +175,13 @@ pub fn judged(text: &[u8], at: usize) -> Result<(), Bad>
 }
 
 // Where the note lines begin behind a header, and how many there are: none of a refused sheet. An accepted one has at most 32.
-#[tactic(auto, using(crate::proofs::Verdicts::verdict_good), unfolding(crate::specs::Filling::start))]
-pub fn start_of(header: Result<Read<u32>, Fault>, judged: Result<(), Bad>) -> Start
-    ensures { result ≡ start (field_of header) (verdict_of judged) }
+#[tactic(auto, unfolding(crate::specs::Filling::start))]
+pub fn start_of(h: Field, v: Verdict) -> Start
+    ensures { result ≡ start h v }
 {
-    let (at, count) = match header {
-        Ok(read) => (read.next, read.value),
-        Err(fault) => (fault.at, 0),
-    };
-    let notes = if judged.is_ok() { count } else { 0 };
+    let notes = if v.number == ACCEPTED { h.value } else { 0 };
     Start {
-        at,
+        at: h.stop.at,
         notes,
         listed: (notes % 256) as u8,
     }
@@ -209,11 +232,8 @@ pub fn filled(text: &[u8], at: usize, notes: u32, listed: u8) -> Session
 pub fn read(text: &[u8]) -> Sheet
     ensures { result ≡ sheet_of text.now }
 {
-    let judged = judged(text, 0);
-    let from = start_of(header_at(text, 0), judged);
+    let verdict = Verdict::from(judged(text, 0));
+    let from = start_of(Field::from(header_at(text, 0)), verdict);
     let session = filled(text, from.at, from.notes, from.listed);
-    Sheet {
-        verdict: Verdict::from(judged),
-        session,
-    }
+    Sheet { verdict, session }
 }

@@ -6,8 +6,10 @@ use mathlib.Core.Bool.{Bool, true, false, cond}
 use native.Mathlib.Omega.{arith}
 use lib.ListN.{length, drop}
 use Rattle.decimal.specs.Reading.{is_figure}
-use Rattle.lines.specs.Reading.{Stop, word, separator, tab, lf, good_stop, is_good, mark_at, word_at, mark_after, word_after}
-use Rattle.lines.specs.Fields.{DigestField, Field, good_field, field_at, digest_at, field_after, digest_after}
+use Rattle.lines.specs.declared.Stop.{Stop}
+use Rattle.lines.specs.Reading.{word, separator, tab, lf, good_stop, is_good, mark_at, word_at, mark_after, word_after}
+use Rattle.lines.specs.declared.Field.{Field}
+use Rattle.lines.specs.Fields.{DigestField, good_field, field_at, digest_at, field_after, digest_after}
 use Rattle.lines.specs.Lines.{good_line, line_fault, note_line, header_line, edition1}
 use Rattle.lines.specs.declared.Entry.{Entry}
 use Rattle.sheet_promises.specs.Grammar.{IsLine, IsHeader}

@@ -9,7 +9,8 @@ use lib.ListN.{length, drop, length-drop, drop_of_length-le}
 use lib.Seq.{drop-cons}
 use Rattle.refusal.specs.Table.{accepted, form}
 use Rattle.lines.specs.Reading.{is_good}
-use Rattle.lines.specs.Lines.{NoteLine, good_line, note_line}
+use Rattle.lines.specs.declared.NoteLine.{NoteLine}
+use Rattle.lines.specs.Lines.{good_line, note_line}
 use Rattle.sheet.specs.Judging.{entry_number, note_number, verdict_at, judged_notes, entries_at}
 use Rattle.lines.specs.declared.Entry.{Entry}
 use Rattle.truth.proofs.Tests.{either, below_or_not, never, not_both}

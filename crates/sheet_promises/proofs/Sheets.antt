@@ -9,7 +9,8 @@ use lib.ListN.{length, drop}
 use Rattle.refusal.specs.Table.{accepted, form, count_or_note}
 use Rattle.rules.specs.Rules.{count_rule}
 use Rattle.lines.specs.Reading.{is_good}
-use Rattle.lines.specs.Fields.{Field, good_field}
+use Rattle.lines.specs.declared.Field.{Field}
+use Rattle.lines.specs.Fields.{good_field}
 use Rattle.lines.specs.Lines.{header_line, edition1}
 use Rattle.sheet.specs.Judging.{verdict_at, judged_notes, judged, entries_at}
 use Rattle.lines.specs.declared.Entry.{Entry}

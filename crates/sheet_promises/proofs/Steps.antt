@@ -11,7 +11,8 @@ use Rattle.std.specs.Prelude.{Option, Some, None}
 use Rattle.decimal.specs.Reading.{is_figure, numeral_at}
 use Rattle.decimal.specs.declared.Numeral.{Numeral}
 use Rattle.decimal.proofs.Numbers.{number_read, found_stands}
-use Rattle.lines.specs.Reading.{Stop, nothing, number, separator, good_stop, fault, is_good, has_at, mark_at, word_at}
+use Rattle.lines.specs.declared.Stop.{Stop}
+use Rattle.lines.specs.Reading.{nothing, number, separator, good_stop, fault, is_good, has_at, mark_at, word_at}
 use Rattle.lines.specs.Fields.{good_field, field_at}
 use Rattle.lines.proofs.Marks.{mark_there, mark_missing}
 use Rattle.lines.proofs.Places.{field_none, field_open, field_closed}

@@ -1,5 +1,4 @@
 use native.Mathlib.Omega.{arith}
-use Rattle.std.proofs.lemmas.Grind.{common_steps}
 use Rattle.sheet.proofs.Verdicts.{no_header, first_line}
 use Rattle.sheet.proofs.judged.Goals as goal
 
