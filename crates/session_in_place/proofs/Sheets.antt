@@ -7,7 +7,7 @@ use Rattle.reader.specs.declared.SheetReader.{SheetReader}
 use mathlib.Core.List.{List}
 use Rattle.session.specs.Sessions.{empty_session}
 use Rattle.session.specs.declared.Session.{Session}
-use Rattle.lines.specs.Fields.{Field}
+use Rattle.lines.specs.declared.Field.{Field}
 use Rattle.sheet.specs.Judging.{header_at, judged, entries_at, with_notes, sheet_of}
 use Rattle.sheet.specs.Filling.{start, with_listed}
 use Rattle.sheet.specs.declared.Verdict.{Verdict}

@@ -7,9 +7,10 @@ ghost use Rattle.session.specs.Light.{ready as lit};
 ghost use Rattle.session.specs.Operations.{deliver as delivered, ask as asked};
 ghost use Rattle.sheet.specs.Judging.{verdict_of, entries_at, with_notes, sheet_of};
 
+use lines::Field;
 use reader::SheetReader;
 use session::{Session, slot_index};
-use sheet::Bad;
+use sheet::{Bad, Verdict};
 use slots::{Answer, ask_at, deliver_at};
 
 // A delivery into a lent session. A refusal puts back what was there, and opens nothing.
@@ -44,7 +45,9 @@ pub fn ready(s: &Session) -> bool
 pub fn list_none(s: &mut Session)
     ensures { s.new ≡ empty_session }
 {
-    s.slots.fill(slots::empty_slot());
+    for slot in &mut s.slots {
+        *slot = slots::empty_slot();
+    }
     s.listed = 0;
     s.opened = 0;
 }
@@ -69,7 +72,7 @@ pub fn read_into(s: &mut Session, text: &[u8]) -> Result<(), Bad>
 {
     let mut reader = SheetReader::begin(text);
     let judged = reader.judge();
-    let from = sheet::start_of(reader.header(), judged);
+    let from = sheet::start_of(Field::from(reader.header()), Verdict::from(judged));
     list_none(s);
     fill(s, text, from.at, from.notes);
     s.listed = from.listed;
