@@ -1,7 +1,8 @@
 // One data file, line by line: what each line prints is held against what the library gives.
 use crate::trace::Block;
 use crate::{text, trace};
-use std::alloc::{AllocError, Global};
+use arrayvec::ArrayVec;
+use standard::Words;
 use std::fmt;
 
 // How many of each were compared, and how many lines differ.
@@ -87,10 +88,10 @@ const LINE_WORDS: usize = 8;
 const WORD_ROOM: usize = 9;
 
 // Where the run stands: the message, whether the line before was of it, the blocks begun, and how many words of each kind were seen of
-// this block (of the message, for padded words).
+// this block (of the message, for padded words). No memory is asked for: a run cannot fail for want of it.
 #[derive(Drop)]
 pub struct Run {
-    message: Vec<u8>,
+    message: ArrayVec<u8, MESSAGE_BYTES>,
     joining: bool,
     begun: usize,
     expanded: usize,
@@ -101,9 +102,9 @@ pub struct Run {
 }
 
 impl Run {
-    pub fn new(alloc: Global) -> Run {
+    pub fn new() -> Run {
         Run {
-            message: Vec::new(alloc),
+            message: ArrayVec::new(),
             joining: false,
             begun: 0,
             expanded: 0,
@@ -115,37 +116,37 @@ impl Run {
     }
 
     // Takes one line of a data file, and says whether it agrees.
-    pub fn line(&mut self, line: &[u8]) -> Result<bool, AllocError> {
-        let agrees = self.agrees(line)?;
+    pub fn line(&mut self, line: &[u8]) -> bool {
+        let agrees = self.agrees(line);
         if !agrees {
             self.tally.differ = self.tally.differ.saturating_add(1);
         }
-        Ok(agrees)
+        agrees
     }
 
-    fn agrees(&mut self, line: &[u8]) -> Result<bool, AllocError> {
+    fn agrees(&mut self, line: &[u8]) -> bool {
         let joining = self.joining;
         self.joining = false;
         let Some((first, rest)) = line.split_first() else {
-            return Ok(true);
+            return true;
         };
         match Line::try_from(*first) {
-            Ok(Line::Comment) => Ok(true),
+            Ok(Line::Comment) => true,
             Ok(Line::Message) => {
                 self.joining = true;
                 self.message_line(joining, rest)
             }
             Ok(Line::Block) => {
                 self.new_block();
-                Ok(true)
+                true
             }
-            Ok(Line::Words(kind)) => Ok(self.words_line(kind, rest)),
-            Err(UnknownLine) => Ok(false),
+            Ok(Line::Words(kind)) => self.words_line(kind, rest),
+            Err(UnknownLine) => false,
         }
     }
 
     // More bytes of the message, or the first ones of a new message: whether they are bytes and have room. What is no byte counts as 0.
-    fn message_line(&mut self, joining: bool, rest: &[u8]) -> Result<bool, AllocError> {
+    fn message_line(&mut self, joining: bool, rest: &[u8]) -> bool {
         if !joining {
             self.message.clear();
             self.begun = 0;
@@ -154,14 +155,11 @@ impl Run {
         }
         let mut agrees = true;
         for pair in rest.get(1..).unwrap_or(b"").chunks(2).take(LINE_BYTES) {
-            if self.message.len() == MESSAGE_BYTES {
-                return Ok(false);
-            }
             let byte = text::byte(pair);
-            agrees &= byte.is_some();
-            self.message.push(byte.unwrap_or(0))?;
+            let fits = self.message.try_push(byte.unwrap_or(0)).is_ok();
+            agrees &= fits && byte.is_some();
         }
-        Ok(agrees)
+        agrees
     }
 
     fn new_block(&mut self) {
@@ -187,6 +185,11 @@ impl Run {
         Block::of(&self.message, self.begun.checked_sub(1)?)
     }
 
+    // The chaining value before it.
+    fn before(&self) -> Option<Words> {
+        trace::chained(&self.message, self.begun.checked_sub(1)?)
+    }
+
     // What the library has for word i of a line of this kind, counted as the run stands.
     fn wanted(&self, kind: Kind, i: usize) -> Option<u32> {
         match kind {
@@ -196,8 +199,8 @@ impl Run {
             }
             Kind::Expanded => self.block()?.expanded(self.expanded.saturating_add(i)),
             Kind::Primed => self.block()?.primed(self.primed.saturating_add(i)),
-            Kind::Row => self.block()?.register(self.rows, i),
-            Kind::Chained => self.block()?.next_value(i),
+            Kind::Row => self.block()?.register(self.before()?, self.rows, i),
+            Kind::Chained => self.block()?.next_value(self.before()?, i),
             Kind::Digest => trace::digest(&self.message, i),
         }
     }

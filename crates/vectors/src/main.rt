@@ -3,6 +3,8 @@
 // Then the small examples of document 01.
 #![tactic(auto)]
 
+ghost use Rattle.std.specs.Prelude.{◌≤◌, length};
+
 use std::fs::File;
 use std::io;
 use std::io::Read;
@@ -18,16 +20,30 @@ use lines::Run;
 // So many bytes of a data file are read.
 const ROOM: usize = 65536;
 
-fn source<R: Files + Print + AllocGlobal>(rt: &R, file: &str) -> io::Result<()> {
-    let Ok(data) = File::open(rt, file) else {
+// Reads until the room is full, the file ends or a read fails, which counts as its end: how many bytes came.
+fn read_full<F: Read>(file: &mut F, room: &mut [u8]) -> usize
+    ensures { result ≤ length room.new }
+{
+    let mut done = 0;
+    while done < room.len() {
+        match file.read(&mut room[done..]) {
+            Ok(n) if n > 0 => done += n,
+            _ => break,
+        }
+    }
+    done
+}
+
+fn source<R: Files + Print>(rt: &R, file: &str) -> io::Result<()> {
+    let Ok(mut data) = File::open(rt, file) else {
         return println!(rt; "missing {file}");
     };
-    // A read that fails counts as the file's end. With this room, memory is asked for again only once all these bytes are in.
-    let mut text = Vec::with_capacity(rt.alloc(), ROOM)?;
-    let _ = data.take(ROOM as u64).read_to_end(&mut text);
-    let mut run = Run::new(rt.alloc());
-    for (number, line) in (1u64..).zip(text.split(|b| *b == b'\n')) {
-        if !run.line(line)? {
+    // in the frame, and not in a Vec: this program asks for no memory, and so cannot fail for want of it
+    let mut room = [0u8; ROOM];
+    let n = read_full(&mut data, &mut room);
+    let mut run = Run::new();
+    for (number, line) in (1u64..).zip(room[..n].split(|b| *b == b'\n')) {
+        if !run.line(line) {
             println!(rt; "differ {file} line {number}")?;
         }
     }

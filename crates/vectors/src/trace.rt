@@ -3,11 +3,10 @@
 use hash::Hash;
 use standard::Words;
 
-// Block n of a padded message, and the chaining value before it, V(n).
-#[derive(Drop)]
+// A block of a padded message. The chaining value before it is worked out only where a line asks for it: it folds every block before.
+#[derive(Clone, Copy)]
 pub struct Block {
     bytes: [u8; 64],
-    before: Words,
 }
 
 // The bytes of block i of the padded message, by the padding writer and the block view.
@@ -22,14 +21,20 @@ fn word_of(v: Words, i: usize) -> Option<u32> {
     [v.a, v.b, v.c, v.d, v.e, v.f, v.g, v.h].get(i).copied()
 }
 
+// V(n), the chaining value before block n.
+pub fn chained(message: &[u8], n: usize) -> Option<Words> {
+    let mut value = Hash::START;
+    for i in 0..n {
+        value = folding::fold_block(value, &block_bytes(message, i)?);
+    }
+    Some(value)
+}
+
 impl Block {
+    // Block n.
     pub fn of(message: &[u8], n: usize) -> Option<Block> {
         let bytes = block_bytes(message, n)?;
-        let mut before = Hash::START;
-        for i in 0..n {
-            before = folding::fold_block(before, &block_bytes(message, i)?);
-        }
-        Some(Block { bytes, before })
+        Some(Block { bytes })
     }
 
     // Wi.
@@ -43,22 +48,23 @@ impl Block {
         w.iter().zip(&w[4..]).map(|(w, w4)| w ^ w4).nth(i)
     }
 
-    // Register i after the first `rounds` rounds, round by round, as the standard's page has them; row 0 is the state before round 0.
-    pub fn register(&self, rounds: usize, i: usize) -> Option<u32> {
+    // Register i after the first `rounds` rounds from V(n), round by round, as the standard's page has them; row 0 is the state before
+    // round 0.
+    pub fn register(&self, before: Words, rounds: usize, i: usize) -> Option<u32> {
         if 64 < rounds {
             return None;
         }
         let w = folding::expanded(&self.bytes);
         let row = (0..64u32).zip(w.iter().zip(&w[4..])).take(rounds).fold(
-            self.before,
+            before,
             |r, (j, (w, w4))| standard::round(j, r, *w, w ^ w4),
         );
         word_of(row, i)
     }
 
-    // Word i of V(n + 1).
-    pub fn next_value(&self, i: usize) -> Option<u32> {
-        word_of(folding::fold_block(self.before, &self.bytes), i)
+    // Word i of V(n + 1), from V(n).
+    pub fn next_value(&self, before: Words, i: usize) -> Option<u32> {
+        word_of(folding::fold_block(before, &self.bytes), i)
     }
 }
 
