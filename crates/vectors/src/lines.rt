@@ -2,7 +2,6 @@
 use crate::trace::Block;
 use crate::{text, trace};
 use arrayvec::ArrayVec;
-use standard::Words;
 use std::fmt;
 
 // How many of each were compared, and how many lines differ.
@@ -181,13 +180,8 @@ impl Run {
     }
 
     // The block that was begun last.
-    fn block(&self) -> Option<Block> {
+    fn block(&self) -> Option<Block<'_>> {
         Block::of(&self.message, self.begun.checked_sub(1)?)
-    }
-
-    // The chaining value before it.
-    fn before(&self) -> Option<Words> {
-        trace::chained(&self.message, self.begun.checked_sub(1)?)
     }
 
     // What the library has for word i of a line of this kind, counted as the run stands.
@@ -199,8 +193,8 @@ impl Run {
             }
             Kind::Expanded => self.block()?.expanded(self.expanded.saturating_add(i)),
             Kind::Primed => self.block()?.primed(self.primed.saturating_add(i)),
-            Kind::Row => self.block()?.register(self.before()?, self.rows, i),
-            Kind::Chained => self.block()?.next_value(self.before()?, i),
+            Kind::Row => self.block()?.register(self.rows, i),
+            Kind::Chained => self.block()?.next_value(i),
             Kind::Digest => trace::digest(&self.message, i),
         }
     }
