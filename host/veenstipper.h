@@ -325,7 +325,7 @@ size_t vs_remove_part(const uint8_t *bytes, size_t bytes_length);
  * both counts are 0. An accepted sheet's line is 0. */
 vs_sheet vs_sheet_read(const uint8_t *text, size_t text_length);
 
-/* The same into a lent session, whatever it held: under 1 KB of stack where the call by value takes over 20 KB. */
+/* The same into a lent session, whatever it held: under 1 KB of stack where the call by value takes over 10 KB. */
 vs_verdict vs_sheet_read_in_place(vs_session *session, const uint8_t *text, size_t text_length);
 
 /* Writes the sheet of the session's listed notes to the front of the buffer, whatever their status; count says how many bytes that are. Later
